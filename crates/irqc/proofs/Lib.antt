@@ -1,0 +1,4 @@
+pub mod Output
+pub mod Sources
+pub mod Registers
+pub mod Sentences

@@ -1,0 +1,2 @@
+pub mod Irqc
+pub mod Meaning

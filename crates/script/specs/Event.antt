@@ -1,0 +1,22 @@
+-- One event of a script: document 01, "Events have 12 bytes: kind, size, aux (u16), a, b (u32)", big-endian.
+--
+--   eventAt s at     == the event whose bytes start at place `at` of s; a byte past the end is 0
+use Prim.Native.Nat.{ℕ, _+_}
+use mathlib.Core.List.{List, [], _∷_}
+use lib.ListN.{getD}
+use Rattle.common.specs.Bytes.{bigEndian}
+use Rattle.script.specs.declared.Event.{Event}
+
+-- byte, half-word and word at place `at + k`
+abbrev pub byteOf : List ℕ → ℕ → ℕ → ℕ
+byteOf s at k = getD s (at + k) 0
+
+unfoldable pub halfOf : List ℕ → ℕ → ℕ → ℕ
+halfOf s at k = bigEndian (byteOf s at k ∷ byteOf s at (k + 1) ∷ [])
+
+unfoldable pub wordOf : List ℕ → ℕ → ℕ → ℕ
+wordOf s at k = bigEndian (byteOf s at k ∷ byteOf s at (k + 1) ∷ byteOf s at (k + 2) ∷ byteOf s at (k + 3) ∷ [])
+
+unfoldable pub eventAt : List ℕ → ℕ → Event
+eventAt s at =
+    record { kind = byteOf s at 0; size = byteOf s at 1; aux = halfOf s at 2; a = wordOf s at 4; b = wordOf s at 8 }

@@ -1,0 +1,59 @@
+// An event script's records: document 01, 'Event script and its listing'.
+ghost use mathlib.Core.Path.{_≡_};
+ghost use Prim.Native.Nat.{_<_};
+ghost use Rattle.script.specs.Event.{byteOf, halfOf, wordOf, eventAt};
+use common::be_half;
+use common::be_word;
+
+pub const EVENT_SIZE: usize = 12;
+
+// Twelve bytes, big-endian. Which fields an event uses its kind says.
+pub struct Event {
+    pub kind: u8,
+    pub size: u8,
+    pub aux: u16,
+    pub a: u32,
+    pub b: u32,
+}
+
+// Byte `k` from place `at` on; 0 past the end.
+fn byte_at(s: &[u8], at: usize, k: usize) -> u8
+    ensures { λ r. ⌜ r ≡ byteOf (now (s .entry)) at k ⌝ }
+{
+    if s.len() <= at {
+        return 0;
+    }
+    if k < s.len() - at { s[at + k] } else { 0 }
+}
+
+fn half_at(s: &[u8], at: usize, k: usize) -> u16
+    requires { ⌜ k < 32 ⌝ }
+    ensures { λ r. ⌜ r ≡ halfOf (now (s .entry)) at k ⌝ }
+{
+    be_half(byte_at(s, at, k), byte_at(s, at, k + 1))
+}
+
+fn word_at(s: &[u8], at: usize, k: usize) -> u32
+    requires { ⌜ k < 32 ⌝ }
+    ensures { λ r. ⌜ r ≡ wordOf (now (s .entry)) at k ⌝ }
+{
+    be_word(
+        byte_at(s, at, k),
+        byte_at(s, at, k + 1),
+        byte_at(s, at, k + 2),
+        byte_at(s, at, k + 3),
+    )
+}
+
+// The event that starts at a place of the script.
+pub fn event_at(s: &[u8], at: usize) -> Event
+    ensures { λ r. ⌜ r ≡ eventAt (now (s .entry)) at ⌝ }
+{
+    Event {
+        kind: byte_at(s, at, 0),
+        size: byte_at(s, at, 1),
+        aux: half_at(s, at, 2),
+        a: word_at(s, at, 4),
+        b: word_at(s, at, 8),
+    }
+}

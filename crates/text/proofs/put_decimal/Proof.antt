@@ -1,0 +1,38 @@
+-- `text::put_decimal` meets its contract: the digits from `first` on are the number's. Assumes nothing.
+use Rattle.text.specs.Text.Laws.{rest-written}
+use borrow.Author.Needs.{needs}
+use Rattle.text.proofs.put_decimal.Statement.{statement}
+use Rattle.text.proofs.put_decimal.Tie as tie
+
+decimal-digits-requires : tie.Need-decimal-digits-requires
+decimal-digits-requires c κs = search needs
+
+sub-put-bytes : tie.Need-sub-put-bytes
+sub-put-bytes c = search needs
+
+part-put-bytes-start : tie.Need-part-put-bytes-start
+part-put-bytes-start c = search needs
+
+part-put-bytes-end : tie.Need-part-put-bytes-end
+part-put-bytes-end c = search needs
+
+put-bytes-requires : tie.Need-put-bytes-requires
+put-bytes-requires c κs = search needs
+
+same-length : tie.Need-same-length
+same-length c = search needs
+
+returns : tie.Need-returns
+returns c = search rest-written
+
+pub put-decimal-spec : {M : Type 1} → statement M
+put-decimal-spec =
+    tie.close
+    (tie.spec
+    decimal-digits-requires
+    sub-put-bytes
+    part-put-bytes-start
+    part-put-bytes-end
+    put-bytes-requires
+    same-length
+    returns)
