@@ -4,6 +4,7 @@
 --   bit-and, bit-or, bit-xor, bit-not, bit-pow, bit-of-zero   == a bit of each operation's result
 --   with-bit, without-bits, without-bit                       == a bit of a word with bits set or cleared
 --   flag-is                                                   == the test `x & (1 << n) != 0`
+--   field-is                                                  == the test of several bits by a mask
 --   one-shifted                                               == the word `1 << n`
 --   same-bits                                                 == equal bits, equal words
 -- Assumes nothing.
@@ -11,10 +12,10 @@ use mathlib.Core.Path.{_≡_, refl, sym, ap, ap₂, _∙_}
 use mathlib.Core.Bool.{Bool, true, false, not, _&&_, _||_}
 use mathlib.Core.Logic.{_⊎_, inl, inr, ⊎-elim}
 use Prim.Native.Nat.{ℕ, zero, suc, _+_, _-_, _*_, _/_, _%_, _^_, _≤_, _<_, min, max}
-use native.Mathlib.Nat.{mod-lt, div-one, pow-suc, one-mul, zero-mul, lt-of-le-of-lt}
+use native.Mathlib.Nat.{mod-lt, div-one, pow-suc, one-mul, zero-mul, suc-mul, lt-of-le-of-lt}
 use native.Mathlib.Numerals.{one-add}
 use native.Mathlib.Omega.{arith}
-use borrow.Author.Tests.{eqb-true, eqb-false}
+use borrow.Author.Tests.{eqb-true, eqb-false, ne-eqb}
 use lib.Dec.{lit<, eqb, eqb·suc-suc, eqb·zero-suc, eqb·suc-zero}
 use lib.Arith.{digits-mod, digits-div, lt-one}
 use lib.Pow.{pow-pos, pow-lt, pow-add, shl-exact, shr-shr}
@@ -167,6 +168,15 @@ flag-is x n =
     (λ (t : eqb (bitAnd x (2 ^ n)) 0 ≡ true). ap not t ∙ sym (clear-bit x n (eqb-true _ _ t)))
     (λ (t : eqb (bitAnd x (2 ^ n)) 0 ≡ false). ap not t ∙ sym (set-bit x n (eqb-false _ _ t)))
     (bool-is (eqb (bitAnd x (2 ^ n)) 0))
+
+-- ---- the test of several bits by a mask: j bits from bit k on
+
+pub field-is : (x j k : ℕ) → eqb (bitAnd x (2 ^ (j + k) - 2 ^ k)) 0 ≡ eqb (x / 2 ^ k % 2 ^ j) 0
+field-is x j k = ap (λ (y : ℕ). eqb y 0) (and-high x j k) ∙ scaled (x / 2 ^ k % 2 ^ j)
+  where
+    scaled : (y : ℕ) → eqb (y * 2 ^ k) 0 ≡ eqb y 0
+    scaled zero = ap (λ (y : ℕ). eqb y 0) (zero-mul (2 ^ k))
+    scaled (suc y) = ne-eqb (suc y * 2 ^ k) 0 (λ e. omega (arith, pow-pos k, suc-mul y (2 ^ k))) ∙ sym (eqb·suc-zero y)
 
 -- ---- equal bits, equal words
 

@@ -6,8 +6,10 @@ use Rattle.irqc_replay.proofs.main.Tie as tie
 
 abbrev Inv-loop : tie.InvT-loop
 Inv-loop input n c₀ at₀ c at = n ≤ 65536
+
 abbrev μ-loop : tie.MeasureT-loop
 μ-loop input n c₀ at₀ c at = n - at
+
 large-buffer-requires : tie.Need-large-buffer-requires Inv-loop μ-loop
 large-buffer-requires c κs = search needs
 

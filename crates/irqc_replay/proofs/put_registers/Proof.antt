@@ -8,8 +8,10 @@ use Rattle.irqc_replay.proofs.put_registers.Tie as tie
 
 abbrev Inv-loop : tie.InvT-loop
 Inv-loop line₀ at c place₀ addr₀ line place addr = (addr ≤ 8) × (length line ≡ length line₀)
+
 abbrev μ-loop : tie.MeasureT-loop
 μ-loop line₀ at c place₀ addr₀ line place addr = 8 - addr
+
 loop-holds : tie.Need-loop-holds Inv-loop μ-loop
 loop-holds c = search needs
 

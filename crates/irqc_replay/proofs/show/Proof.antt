@@ -16,6 +16,7 @@ array-share-prefix-line c = search needs
 
 slice-aggregate-write-all : tie.Need-slice-aggregate-write-all
 slice-aggregate-write-all c = simp length-take (omega arith)
+
 write-all-requires : tie.Need-write-all-requires
 write-all-requires c κs = search needs
 

@@ -16,6 +16,7 @@ past-end s at k h = let e : length s ≤ at + k = omega arith in sym (List·getD
 
 returns : tie.Need-returns
 returns c = search past-start
+
 sub-if2 : tie.Need-sub-if2
 sub-if2 c = search needs
 
@@ -30,6 +31,7 @@ returns-2 c = search needs
 
 returns-3 : tie.Need-returns-3
 returns-3 c = search past-end
+
 pub byte-at-spec : {M : Type 1} → statement M
 byte-at-spec =
     tie.close (tie.spec returns sub-if2 add-result shared-slice-read-result returns-2 returns-3)

@@ -22,6 +22,7 @@ word-at-requires-2 c κs = search needs
 returns : tie.Need-returns
 unfolding eventAt
 returns c = cc
+
 pub event-at-spec : {M : Type 1} → statement M
 event-at-spec =
     tie.close

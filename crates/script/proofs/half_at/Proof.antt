@@ -19,6 +19,7 @@ be-half-requires c κs = search needs
 returns : tie.Need-returns
 unfolding halfOf
 returns c = cc
+
 pub half-at-spec : {M : Type 1} → statement M
 half-at-spec =
     tie.close (tie.spec byte-at-requires add-byte-at byte-at-requires-2 be-half-requires returns)

@@ -31,6 +31,7 @@ be-word-requires c κs = search needs
 returns : tie.Need-returns
 unfolding wordOf
 returns c = cc
+
 pub word-at-spec : {M : Type 1} → statement M
 word-at-spec =
     tie.close

@@ -1,0 +1,5 @@
+pub mod Bank
+pub mod Cache
+pub mod History
+pub mod Meaning
+pub mod Corners

@@ -1,0 +1,57 @@
+-- What the cache's definitions mean, line by line: document 01's sentences on the L1 tag cache as laws.
+--
+--   Lines b      == a bank of 256 lines, as every bank is
+--   tagAt b j    == the tag at an index
+--   Meaning      == the laws, one field a sentence
+--
+-- What holds of both banks is said of a bank b, or of either side s. A load or fetch is the same law of its bank.
+use Prim.Native.Nat.{ℕ, _*_, _/_, _%_, _^_, _<_, _≤_}
+use mathlib.Core.Path.{_≡_}
+use mathlib.Core.Bool.{Bool, true, false, cond, _&&_}
+use lib.Dec.{eqb}
+use lib.ListN.{length, getD}
+use Rattle.cache.specs.Bank.{indexOf, noTag, noTags, withTags, holds, accessed, enabledTo}
+use Rattle.cache.specs.Cache.{Side, bankOf, withBanks, saturated, cacheableAt, counts, stallAfter, loaded, fetched, stored, externalWritten, laneOf, merged}
+use Rattle.cache.specs.declared.Bank.{Bank}
+use Rattle.cache.specs.declared.L1Cache.{L1Cache}
+
+abbrev pub Lines : Bank → Type 0
+Lines b = length (b .tags) ≡ 256
+
+abbrev pub tagAt : Bank → ℕ → ℕ
+tagAt b j = getD (b .tags) j 0
+
+pub record Meaning : Type 0 where
+  -- "empty is 0xFFFFFFFF, which no tag can equal": an empty line holds no address
+  pub empty : (b : Bank) (pa : ℕ) → pa < 2 ^ 32 → tagAt b (indexOf pa) ≡ noTag → holds b pa ≡ false
+  -- "hits or allocates": after an access its line is held, and every other index is as it was
+  pub held : (b : Bank) (pa : ℕ) → Lines b → holds (accessed b pa .bank) pa ≡ true
+  pub others : (b : Bank) (pa j : ℕ) → (j ≡ indexOf pa → ⊥) → tagAt (accessed b pa .bank) j ≡ tagAt b j
+  -- "a hit costs 0, a miss the penalty"
+  pub hit : (c : L1Cache) (b : Bank) (pa : ℕ) → holds b pa ≡ true → stallAfter c b pa ≡ 0
+  pub miss : (c : L1Cache) (b : Bank) (pa : ℕ) → counts c b pa ≡ true → holds b pa ≡ false → stallAfter c b pa ≡ c .«miss_penalty»
+  -- "Otherwise it costs 0 and changes nothing"
+  pub load-nothing : (c : L1Cache) (pa : ℕ) → counts c (c .d) pa ≡ false → loaded c pa ≡ record { cache = c; stall = 0 }
+  pub fetch-nothing : (c : L1Cache) (pa : ℕ) → counts c (c .i) pa ≡ false → fetched c pa ≡ record { cache = c; stall = 0 }
+  -- "A cacheable store drops only the matching instruction line, bank enabled or not": what each index holds after it
+  pub store-drops : (c : L1Cache) (pa j : ℕ) → Lines (c .i) →
+      tagAt (stored c pa .i) j ≡ cond (cacheableAt c pa && holds (c .i) pa && eqb (indexOf pa) j) noTag (tagAt (c .i) j)
+  -- and nothing else: a store counts nothing, in either bank
+  pub store-else : (c : L1Cache) (pa : ℕ) → stored c pa ≡ withBanks c (withTags (c .i) (stored c pa .i .tags)) (c .d)
+  -- an external write "drops the index of each line from the one holding its first address while that line starts below the
+  -- saturated end, in both banks, cacheable or not"
+  pub external-drops : (s : Side) (c : L1Cache) (pa len k : ℕ) → Lines (bankOf s c) → pa / 32 ≤ k → k * 32 < saturated pa len →
+      tagAt (bankOf s (externalWritten c pa len)) (k % 256) ≡ noTag
+  -- and no other index
+  pub external-keeps : (s : Side) (c : L1Cache) (pa len j : ℕ) → ((k : ℕ) → pa / 32 ≤ k → k * 32 < saturated pa len → k % 256 ≡ j → ⊥) →
+      tagAt (bankOf s (externalWritten c pa len)) j ≡ tagAt (bankOf s c) j
+  -- and nothing else
+  pub external-else : (c : L1Cache) (pa len : ℕ) →
+      externalWritten c pa len
+      ≡ withBanks c (withTags (c .i) (externalWritten c pa len .i .tags)) (withTags (c .d) (externalWritten c pa len .d .tags))
+  -- "Any change of an enable bit empties its bank", and where it does not change the bank stays
+  pub enable-change : (b : Bank) (on : Bool) → (b .enabled ≡ on → ⊥) → enabledTo b on .tags ≡ noTags
+  pub enable-same : (b : Bank) → enabledTo b (b .enabled) ≡ b
+  -- "A byte lane write is merged with the register as read": that byte is the written one, the other three stay
+  pub lane-written : (w addr v : ℕ) → v < 256 → laneOf (merged w addr v) addr ≡ v
+  pub lane-kept : (w addr other v : ℕ) → v < 256 → (addr % 4 ≡ other % 4 → ⊥) → laneOf (merged w addr v) other ≡ laneOf w other

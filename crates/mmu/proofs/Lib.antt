@@ -1,0 +1,4 @@
+pub mod Masks
+pub mod Search
+pub mod Walks
+pub mod Pages

@@ -1,0 +1,50 @@
+-- `mmu::vm::Vm::check_walk` meets its contract: a leaf, none, or a word that could not be read. Assumes nothing.
+use Rattle.mmu.proofs.Pages.{walk-leaf, walk-missing, walk-bus}
+use borrow.Author.Needs.{needs}
+use Rattle.mmu.proofs.vm.Vm.check_walk.Statement.{statement}
+use Rattle.mmu.proofs.vm.Vm.check_walk.Tie as tie
+
+walk-requires : tie.Need-walk-requires
+walk-requires c κs = search needs
+
+enum-known-walked : tie.Need-enum-known-walked
+enum-known-walked c = search needs
+
+fill-requires : tie.Need-fill-requires
+fill-requires c κs = search needs
+
+judge-requires : tie.Need-judge-requires
+judge-requires c κs = search needs
+
+enum-told : tie.Need-enum-told
+enum-told c = search needs
+
+fault-requires : tie.Need-fault-requires
+fault-requires c κs = search needs
+
+enum-told-2 : tie.Need-enum-told-2
+enum-told-2 c = search needs
+
+returns : tie.Need-returns
+returns c = search walk-leaf
+
+returns-2 : tie.Need-returns-2
+returns-2 c = search walk-missing
+
+returns-3 : tie.Need-returns-3
+returns-3 c = search walk-bus
+
+pub check-walk-spec : {M : Type 1} → statement M
+check-walk-spec =
+    tie.close
+    (tie.spec
+    walk-requires
+    enum-known-walked
+    fill-requires
+    judge-requires
+    enum-told
+    fault-requires
+    enum-told-2
+    returns
+    returns-2
+    returns-3)

@@ -1,0 +1,4 @@
+pub mod Tlb
+pub mod Vm
+pub mod Walk
+pub mod Check

@@ -1,0 +1,179 @@
+// The check of a user's access, page by page.
+ghost use mathlib.Core.Path.{_≡_};
+ghost use Prim.Native.Nat.{_^_};
+ghost use Rattle.memory.specs.Memory.{lent};
+ghost use Rattle.mmu.specs.Check.{accessBit, permits, faulted, judged, bySlot, checkPage, checkEach, pagesOf};
+ghost use Rattle.mmu.specs.Walk.{walkOf};
+use crate::tlb::Slot;
+use crate::tlb::TlbEntry;
+use crate::vm::Vm;
+use crate::walk::PTE_R;
+use crate::walk::PTE_U;
+use crate::walk::PTE_W;
+use crate::walk::PTE_X;
+use crate::walk::Walked;
+use crate::walk::walk;
+
+// User code can never touch vectors, IRQC or CPU state at or above this.
+pub const CPU_RESERVED_BASE: u32 = 0xFFFF_0000;
+
+pub enum Access {
+    Read,
+    Write,
+    Fetch,
+}
+
+pub enum Exception {
+    IllegalInstruction,
+    BusError,
+    // The low byte is the call's number, the high one its context.
+    Syscall(u16),
+    PrivilegedInstruction,
+    ProtectionFault(Access),
+    // `protection` tells a present leaf that denies the access from a missing translation.
+    PageFault {
+        access: Access,
+        protection: bool,
+        addr: u32,
+    },
+}
+
+pub enum Verdict {
+    Allowed,
+    Denied(Exception),
+}
+
+pub struct Checked {
+    pub vm: Vm,
+    pub verdict: Verdict,
+    pub reads: u32,
+}
+
+pub fn pte_bit(access: Access) -> u32
+    ensures { λ r. ⌜ r ≡ 2 ^ accessBit access ⌝ }
+{
+    match access {
+        Access::Read => PTE_R,
+        Access::Write => PTE_W,
+        Access::Fetch => PTE_X,
+    }
+}
+
+fn grants(entry: TlbEntry, access: Access) -> bool
+    ensures { λ r. ⌜ r ≡ permits entry access ⌝ }
+{
+    if entry.flags & PTE_U == 0 {
+        return false;
+    }
+    if entry.flags & pte_bit(access) == 0 {
+        return false;
+    }
+    entry.ppn << 12 < CPU_RESERVED_BASE
+}
+
+fn fault(access: Access, protection: bool, addr: u32) -> Verdict
+    ensures { λ r. ⌜ r ≡ faulted access protection addr ⌝ }
+{
+    Verdict::Denied(Exception::PageFault {
+        access,
+        protection,
+        addr,
+    })
+}
+
+fn judge(entry: TlbEntry, access: Access, va: u32) -> Verdict
+    ensures { λ r. ⌜ r ≡ judged entry access va ⌝ }
+{
+    if grants(entry, access) {
+        Verdict::Allowed
+    } else {
+        fault(access, true, va)
+    }
+}
+
+impl Vm {
+    // One page of an access, of which `va` is the first address that is wanted. A good leaf fills the TLB even if the
+    // access is then denied.
+    pub fn check_page(self, mem: &[u8], base: u32, va: u32, access: Access) -> Checked
+        ensures { λ r. ⌜ r ≡ checkPage (lent base (now (mem .entry))) self access va ⌝ }
+    {
+        let page = va >> 12;
+        if page << 12 >= CPU_RESERVED_BASE {
+            return Checked {
+                vm: self,
+                verdict: fault(access, true, va),
+                reads: 0,
+            };
+        }
+        let slot = self.lookup(page);
+        match slot {
+            Slot::At(i) => {
+                let entry = self.tlb[i];
+                Checked {
+                    vm: self,
+                    verdict: judge(entry, access, va),
+                    reads: 0,
+                }
+            }
+            Slot::Nothing => self.check_walk(mem, base, va, access),
+        }
+    }
+
+    // A page that is not resident.
+    fn check_walk(self, mem: &[u8], base: u32, va: u32, access: Access) -> Checked
+        ensures { λ r. ⌜ r ≡ bySlot self access va (walkOf (lent base (now (mem .entry))) (self .ptbr) va) Slot.Nothing ⌝ }
+    {
+        let answer = walk(mem, base, self.ptbr, va);
+        let walked = answer.walked;
+        match walked {
+            Walked::Leaf(entry) => {
+                let filled = self.fill(entry);
+                Checked {
+                    vm: filled,
+                    verdict: judge(entry, access, va),
+                    reads: answer.reads,
+                }
+            }
+            Walked::Missing => Checked {
+                vm: self,
+                verdict: fault(access, false, va),
+                reads: answer.reads,
+            },
+            Walked::BusError => Checked {
+                vm: self,
+                verdict: Verdict::Denied(Exception::BusError),
+                reads: answer.reads,
+            },
+        }
+    }
+
+    // Each page that the access touches, in order; the first that denies it decides.
+    pub fn check_pages(self, mem: &[u8], base: u32, addr: u32, size: u32, access: Access) -> Checked
+        ensures { λ r. ⌜ r ≡ checkEach (lent base (now (mem .entry))) access self (pagesOf addr size) ⌝ }
+    {
+        let last = std::num::wrapping_add_u32(addr, std::num::wrapping_sub_u32(size, 1)) >> 12;
+        let mut page = addr >> 12;
+        let mut va = addr;
+        let mut vm = self;
+        let mut reads: u32 = 0;
+        let verdict = loop {
+            let checked = vm.check_page(mem, base, va, access);
+            let after = checked.vm;
+            vm = after;
+            reads += checked.reads;
+            let here = checked.verdict;
+            if let Verdict::Denied(e) = here {
+                break Verdict::Denied(e);
+            }
+            if page == last {
+                break Verdict::Allowed;
+            }
+            if std::num::wrapping_add_u32(page, 1) == 0 {
+                break Verdict::Allowed;
+            }
+            page += 1;
+            va = page << 12;
+        };
+        Checked { vm, verdict, reads }
+    }
+}
