@@ -2,3 +2,4 @@ pub mod Bits
 pub mod Bytes
 pub mod Cases
 pub mod Lists
+pub mod Refusal

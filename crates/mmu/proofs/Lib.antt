@@ -1,3 +1,4 @@
+pub mod Causes
 pub mod Masks
 pub mod Search
 pub mod Walks

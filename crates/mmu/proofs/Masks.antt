@@ -8,9 +8,10 @@ use borrow.Author.Tests.{eq-eqb, ne-eqb}
 use Rattle.common.specs.Bits.{bitSet}
 use Rattle.common.specs.Bits.Laws.{clear-bit, set-bit, flag-is, field-is}
 use Rattle.mmu.specs.Walk.{tableOk, leafOk, leafEntry}
-use Rattle.mmu.specs.Check.{accessBit, permits, belowReserved, pageAddr}
+use Rattle.mmu.specs.Check.{permits, belowReserved, pageAddr}
+use Rattle.mmu.specs.Exception.{accessBit}
 use Rattle.mmu.specs.declared.tlb.TlbEntry.{TlbEntry}
-use Rattle.mmu.specs.declared.check.Access.{Access}
+use Rattle.mmu.specs.declared.exception.Access.{Access}
 
 -- bits 6 and 7, and R, W and X, as tests of their masks
 reserved-is : (w : ℕ) → eqb (w / 64 % 4) 0 ≡ eqb (bitAnd w 0xC0) 0

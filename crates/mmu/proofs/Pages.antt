@@ -21,9 +21,9 @@ use Rattle.mmu.specs.declared.vm.Vm.{Vm}
 use Rattle.mmu.specs.declared.walk.Walked.{Walked}
 use Rattle.mmu.specs.declared.walk.Walked.the-variants as walked
 use Rattle.mmu.specs.declared.walk.WalkAnswer.{WalkAnswer}
-use Rattle.mmu.specs.declared.check.Access.{Access}
-use Rattle.mmu.specs.declared.check.Exception.{Exception}
-use Rattle.mmu.specs.declared.check.Exception.the-variants.{BusError}
+use Rattle.mmu.specs.declared.exception.Access.{Access}
+use Rattle.mmu.specs.declared.exception.Exception.{Exception}
+use Rattle.mmu.specs.declared.exception.Exception.the-variants.{BusError}
 use Rattle.mmu.specs.declared.check.Verdict.{Verdict}
 use Rattle.mmu.specs.declared.check.Verdict.the-variants.{Allowed, Denied}
 use Rattle.mmu.specs.declared.check.Checked.{Checked}

@@ -15,6 +15,7 @@ use lib.Dec.{ltb}
 use lib.ListN.{getD}
 use Rattle.common.specs.Bits.{bitSet}
 use Rattle.memory.specs.Memory.{Memory}
+use Rattle.mmu.specs.Exception.{accessBit}
 use Rattle.mmu.specs.Tlb.{noEntry, firstMatch}
 use Rattle.mmu.specs.Vm.{filled}
 use Rattle.mmu.specs.Walk.{walkOf}
@@ -25,20 +26,13 @@ use Rattle.mmu.specs.declared.vm.Vm.{Vm}
 use Rattle.mmu.specs.declared.walk.Walked.{Walked}
 use Rattle.mmu.specs.declared.walk.Walked.the-variants as walked
 use Rattle.mmu.specs.declared.walk.WalkAnswer.{WalkAnswer}
-use Rattle.mmu.specs.declared.check.Access.{Access}
-use Rattle.mmu.specs.declared.check.Access.the-variants.{Read, Write, Fetch}
-use Rattle.mmu.specs.declared.check.Exception.{Exception}
-use Rattle.mmu.specs.declared.check.Exception.the-variants.{BusError, PageFault}
+use Rattle.mmu.specs.declared.exception.Access.{Access}
+use Rattle.mmu.specs.declared.exception.Exception.{Exception}
+use Rattle.mmu.specs.declared.exception.Exception.the-variants.{BusError, PageFault}
 use Rattle.mmu.specs.declared.check.Verdict.{Verdict}
 use Rattle.mmu.specs.declared.check.Verdict.the-variants.{Allowed, Denied}
 use Rattle.mmu.specs.declared.check.Checked.{Checked}
 pub mod Laws
-
--- the number of the bit that grants an access: R is 1, W is 2, X is 3
-abbrev pub accessBit : Access → ℕ
-accessBit Read = 1
-accessBit Write = 2
-accessBit Fetch = 3
 
 abbrev pub pageAddr : ℕ → ℕ
 pageAddr p = p * 4096 % 2 ^ 32

@@ -1,3 +1,4 @@
+pub mod Exception
 pub mod Tlb
 pub mod Vm
 pub mod Walk

@@ -1,42 +1,20 @@
 // The check of a user's access, page by page.
 ghost use mathlib.Core.Path.{_≡_};
-ghost use Prim.Native.Nat.{_^_};
 ghost use Rattle.memory.specs.Memory.{lent};
-ghost use Rattle.mmu.specs.Check.{accessBit, permits, faulted, judged, bySlot, checkPage, checkEach, pagesOf};
+ghost use Rattle.mmu.specs.Check.{permits, faulted, judged, bySlot, checkPage, checkEach, pagesOf};
 ghost use Rattle.mmu.specs.Walk.{walkOf};
+use crate::exception::Access;
+use crate::exception::Exception;
+use crate::exception::pte_bit;
 use crate::tlb::Slot;
 use crate::tlb::TlbEntry;
 use crate::vm::Vm;
-use crate::walk::PTE_R;
 use crate::walk::PTE_U;
-use crate::walk::PTE_W;
-use crate::walk::PTE_X;
 use crate::walk::Walked;
 use crate::walk::walk;
 
 // User code can never touch vectors, IRQC or CPU state at or above this.
 pub const CPU_RESERVED_BASE: u32 = 0xFFFF_0000;
-
-pub enum Access {
-    Read,
-    Write,
-    Fetch,
-}
-
-pub enum Exception {
-    IllegalInstruction,
-    BusError,
-    // The low byte is the call's number, the high one its context.
-    Syscall(u16),
-    PrivilegedInstruction,
-    ProtectionFault(Access),
-    // `protection` tells a present leaf that denies the access from a missing translation.
-    PageFault {
-        access: Access,
-        protection: bool,
-        addr: u32,
-    },
-}
 
 pub enum Verdict {
     Allowed,
@@ -47,16 +25,6 @@ pub struct Checked {
     pub vm: Vm,
     pub verdict: Verdict,
     pub reads: u32,
-}
-
-pub fn pte_bit(access: Access) -> u32
-    ensures { λ r. ⌜ r ≡ 2 ^ accessBit access ⌝ }
-{
-    match access {
-        Access::Read => PTE_R,
-        Access::Write => PTE_W,
-        Access::Fetch => PTE_X,
-    }
 }
 
 fn grants(entry: TlbEntry, access: Access) -> bool

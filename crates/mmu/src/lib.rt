@@ -2,6 +2,7 @@
 //
 // The bus behind a walk is lent memory: a slice and a physical base. The state goes in by value and comes back by value.
 pub mod check;
+pub mod exception;
 pub mod tlb;
 pub mod vm;
 pub mod walk;

@@ -1,7 +1,7 @@
--- `mmu::check::pte_bit` meets its contract, case by case. Assumes nothing.
+-- `mmu::exception::pte_bit` meets its contract, case by case. Assumes nothing.
 use borrow.Author.Needs.{needs}
-use Rattle.mmu.proofs.check.pte_bit.Statement.{statement}
-use Rattle.mmu.proofs.check.pte_bit.Tie as tie
+use Rattle.mmu.proofs.exception.pte_bit.Statement.{statement}
+use Rattle.mmu.proofs.exception.pte_bit.Tie as tie
 
 enum-told : tie.Need-enum-told
 enum-told c = search needs
