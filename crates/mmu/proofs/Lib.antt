@@ -3,3 +3,4 @@ pub mod Masks
 pub mod Search
 pub mod Walks
 pub mod Pages
+pub mod Sentences

@@ -3,3 +3,5 @@ pub mod Tlb
 pub mod Vm
 pub mod Walk
 pub mod Check
+pub mod Opened
+pub mod Meaning

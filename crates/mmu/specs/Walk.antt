@@ -2,7 +2,8 @@
 --
 --   tableOk w         == a level-1 word that names a table: V, bits 6 and 7 clear, R, W and X clear
 --   leafOk w          == a leaf: V, bits 6 and 7 clear, some of R, W and X, and R if W
---   spot1, spot2      == where the two words stand; the low 12 bits of both bases are cleared
+--   wordOfTable w i   == where word i of a table stands, whose base is w with its low 12 bits cleared
+--   spot1, spot2      == where the walk's two words stand
 --   leafEntry va w    == the entry that a good leaf makes: its frame, and of its bits R, W, X and U alone
 --   walkOf m ptbr va  == the walk for virtual address va
 --
@@ -33,11 +34,15 @@ tableOk w = wellFormed w && eqb (rwx w) 0
 unfoldable pub leafOk : ℕ → Bool
 leafOk w = wellFormed w && not (eqb (rwx w) 0) && (not (bitSet w 2) || bitSet w 1)
 
+-- where word i of the table stands whose base is w: the low 12 bits of the base are cleared
+abbrev pub wordOfTable : ℕ → ℕ → ℕ
+wordOfTable w i = w / 4096 * 4096 + i * 4
+
 abbrev pub spot1 : ℕ → ℕ → ℕ
-spot1 ptbr va = ptbr / 4096 * 4096 + va / 4194304 * 4
+spot1 ptbr va = wordOfTable ptbr (va / 4194304)
 
 abbrev pub spot2 : ℕ → ℕ → ℕ
-spot2 l1 va = l1 / 4096 * 4096 + va / 4096 % 1024 * 4
+spot2 l1 va = wordOfTable l1 (va / 4096 % 1024)
 
 unfoldable pub leafEntry : ℕ → ℕ → TlbEntry
 leafEntry va w = record { valid = true; vpn = va / 4096; ppn = w / 4096; flags = w / 2 % 16 * 2 }

@@ -1,0 +1,65 @@
+-- What the MMU's definitions mean: document 01's sentences on TLB, walk and page check as laws.
+--
+--   marked vpn e     == what TLBINV may change of an entry: its valid mark, where the page is the entry's
+--   Meaning          == the laws, one field a sentence
+--   Corners          == the corner table's figures that are the MMU's, computed
+use Prim.Native.Nat.{ℕ, _+_, _/_, _%_, _^_, _≤_, _<_}
+use mathlib.Core.Path.{_≡_}
+use mathlib.Core.Bool.{Bool, true, false, cond, _&&_, not}
+use mathlib.Core.List.{List}
+use lib.Dec.{eqb}
+use lib.ListN.{length, getD, set}
+use Rattle.memory.specs.Memory.{Memory}
+use Rattle.mmu.specs.Exception.{causeOf}
+use Rattle.mmu.specs.Tlb.{noEntry, matches, firstMatch, droppedPage}
+use Rattle.mmu.specs.Vm.{victim, withTlb, filled}
+use Rattle.mmu.specs.Walk.{tableOk, leafOk, leafEntry, walkOf}
+use Rattle.mmu.specs.Check.{pageAddr, permits, faulted, judged, checkPage, pagesOf}
+use Rattle.mmu.specs.Opened.Laws.{TablesAgree, Passed}
+use Rattle.mmu.specs.declared.tlb.TlbEntry.{TlbEntry}
+use Rattle.mmu.specs.declared.tlb.Slot.the-variants.{At, Nothing}
+use Rattle.mmu.specs.declared.vm.Vm.{Vm}
+use Rattle.mmu.specs.declared.walk.Walked.the-variants.{Leaf}
+use Rattle.mmu.specs.declared.exception.Access.{Access}
+use Rattle.mmu.specs.declared.exception.Access.the-variants.{Write}
+use Rattle.mmu.specs.declared.exception.Exception.the-variants.{Syscall, PageFault}
+use Rattle.mmu.specs.declared.check.Verdict.the-variants.{Allowed}
+use Rattle.mmu.specs.declared.check.Checked.{Checked}
+
+-- the entry at slot i
+abbrev pub slotOf : Vm → ℕ → TlbEntry
+slotOf vm i = getD (vm .tlb) i noEntry
+
+pub record Meaning : Type 0 where
+  -- "A virtual page at or above 0xFFFF0000 is a protection page fault", before anything is looked up
+  pub reserved : (m : Memory) (vm : Vm) (k : Access) (va : ℕ) → 0xFFFF_0000 ≤ pageAddr (va / 4096)
+      → checkPage m vm k va ≡ record { vm = vm; verdict = faulted k true va; reads = 0 }
+  -- "Else the first valid TLB match": it uses no walk read and leaves the state
+  pub resident : (m : Memory) (vm : Vm) (k : Access) (va i : ℕ) → pageAddr (va / 4096) < 0xFFFF_0000 → firstMatch (va / 4096) 0 (vm .tlb) ≡ At i
+      → checkPage m vm k va ≡ record { vm = vm; verdict = judged (slotOf vm i) k va; reads = 0 }
+  -- "A good leaf fills slot next_victim even if the access is then denied and even if another slot is free"
+  pub fills : (m : Memory) (vm : Vm) (k : Access) (va : ℕ) (e : TlbEntry) → pageAddr (va / 4096) < 0xFFFF_0000 → firstMatch (va / 4096) 0 (vm .tlb) ≡ Nothing
+      → walkOf m (vm .ptbr) va .walked ≡ Leaf e
+      → checkPage m vm k va .vm ≡ withTlb vm (set (vm .tlb) (victim vm) e) ((victim vm + 1) % 16)
+  -- "Then U, the access bit and a physical page below 0xFFFF0000 are needed": of an allowed page the TLB then holds such an entry
+  pub allowed : (m : Memory) (vm : Vm) (k : Access) (va : ℕ) → va < 2 ^ 32 → length (vm .tlb) ≡ 16 → checkPage m vm k va .verdict ≡ Allowed
+      → Passed m vm k va (checkPage m vm k va)
+  -- "Walk reads (added) are at most 2 for each page, a failed one included"
+  pub few-reads : (m : Memory) (vm : Vm) (k : Access) (va : ℕ) → checkPage m vm k va .reads ≤ 2
+  -- a walk reads page tables alone
+  pub tables-only : (m m′ : Memory) (ptbr va : ℕ) → va < 2 ^ 32 → TablesAgree m m′ ptbr → walkOf m ptbr va ≡ walkOf m′ ptbr va
+  -- "TLBINV clears only the valid mark of that page's slots"
+  pub invalidates : (vpn : ℕ) (l : List TlbEntry) (i : ℕ)
+      → getD (droppedPage vpn l) i noEntry ≡ (let e = getD l i noEntry in record { valid = e .valid && not (eqb (e .vpn) vpn); vpn = e .vpn; ppn = e .ppn; flags = e .flags })
+
+pub record Corners : Type 0 where
+  -- P4 and P5
+  pub syscall : causeOf (Syscall 0x1234) ≡ 0x8003_1234
+  pub write-protection : (addr : ℕ) → causeOf (PageFault Write true addr) ≡ 0x8006_000A
+  -- P8: a leaf with W needs R; 0x3013 has R and U
+  pub leaf-w-alone : leafOk 0x3005 ≡ false
+  pub leaf-r-u : leafOk 0x3013 ≡ true
+  -- P9: a level-1 word with R is a huge page, which is unmapped
+  pub huge : tableOk 0x2003 ≡ false
+  -- a leaf's entry has its frame, and R, W, X and U alone
+  pub entry : leafEntry 0x5FFC 0x0002_1013 ≡ record { valid = true; vpn = 5; ppn = 0x21; flags = 0x12 }

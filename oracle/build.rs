@@ -1,0 +1,85 @@
+//! Writes the file of `mod` items through which `lib.rs` compiles the published modules from
+//! where they stand, so that no copy of them is in this repository. With the feature `port` it
+//! also tells the linker where the port's static library is.
+
+use std::env;
+use std::fs;
+use std::path::{Path, PathBuf};
+
+/// The published files in a checkout.
+const FILES: [&str; 4] = [
+    "src/cpu_cache.rs",
+    "src/cpu_privilege.rs",
+    "src/devices/cpu.rs",
+    "src/devices/irqc/irqc.rs",
+];
+
+fn main() {
+    println!("cargo:rerun-if-env-changed=SRC32");
+    println!("cargo:rerun-if-changed=build.rs");
+    let home = PathBuf::from(variable("CARGO_MANIFEST_DIR"));
+    let checkout = checkout(&home);
+    let out = PathBuf::from(variable("OUT_DIR")).join("published.rs");
+    println!("cargo:rustc-env=PUBLISHED={}", checkout.display());
+    println!("cargo:rustc-env=PUBLISHED_FILES={}", FILES.join(":"));
+    if let Err(error) = fs::write(&out, module_file(&checkout)) {
+        panic!("cannot write {}: {error}", out.display());
+    }
+    if env::var_os("CARGO_FEATURE_PORT").is_some() {
+        link_port(&home);
+    }
+}
+
+/// The checkout that SRC32 names (cargo reads a relative path from this folder); by default the
+/// published files beside the repository.
+fn checkout(home: &Path) -> PathBuf {
+    let named = env::var_os("SRC32").map(PathBuf::from);
+    let place = named.unwrap_or_else(|| home.join("../../shared/docs/src"));
+    match place.canonicalize() {
+        Ok(path) => path,
+        Err(error) => panic!(
+            "SRC32 must name a checkout of src32: {}: {error}",
+            place.display()
+        ),
+    }
+}
+
+fn variable(name: &str) -> String {
+    env::var(name).unwrap_or_else(|error| panic!("cargo did not set {name}: {error}"))
+}
+
+/// The published modules at the paths by which they name each other.
+fn module_file(checkout: &Path) -> String {
+    let [cache, privilege, cpu, irqc] = FILES.map(|inside| item(checkout, inside));
+    format!(
+        "{cache}{privilege}pub mod devices {{\n{cpu}pub mod irqc {{\n{irqc}}}\n\
+         pub mod pec {{ pub use crate::shims::pec; }}\n}}\n"
+    )
+}
+
+/// One `mod` item. What the published text would warn about is silenced here, not in it.
+fn item(checkout: &Path, inside: &str) -> String {
+    let path = checkout.join(inside);
+    if !path.is_file() {
+        panic!(
+            "SRC32 must name a checkout of src32: {} has no {inside}",
+            checkout.display()
+        );
+    }
+    println!("cargo:rerun-if-changed={}", path.display());
+    let name = path.file_stem().unwrap_or_default().to_string_lossy();
+    format!("#[allow(warnings, clippy::all)]\n#[path = {path:?}]\npub mod {name};\n")
+}
+
+/// The port is made by `rt staticlib bridge` below the repository's target folder.
+fn link_port(home: &Path) {
+    let folder = home.join("../target/staticlib");
+    println!("cargo:rustc-link-search=native={}", folder.display());
+    let library = folder.join("libbridge.a");
+    println!("cargo:rerun-if-changed={}", library.display());
+    if !library.exists() {
+        println!(
+            "cargo:warning=target/staticlib/libbridge.a is missing: rt staticlib bridge makes it"
+        );
+    }
+}

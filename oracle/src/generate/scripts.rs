@@ -1,0 +1,179 @@
+//! Whole scripts: runs of all sixteen kinds of events over tables good and damaged.
+
+use crate::event::Event;
+use crate::generate::damage::{damaged, rearranged};
+use crate::generate::irqc::{mask, source};
+use crate::generate::run::Run;
+use crate::generate::system::{edge, register, size, value};
+use crate::generate::tables::Layout;
+use crate::generate::{cache, cases};
+use crate::machine::{
+    KIND_CACHE_READ, KIND_CACHE_WRITE, KIND_CLEAR, KIND_ENABLE, KIND_EXTERNAL, KIND_FETCH,
+    KIND_IRET, KIND_LOAD, KIND_OUTPUT, KIND_READ, KIND_REGISTER, KIND_RESET, KIND_SOURCE,
+    KIND_STORE, KIND_TRAP, KIND_WRITE,
+};
+use crate::random::Random;
+use crate::script::{Script, PAGE, RESERVED};
+
+/// Any script: one with a seed of its own, good, rearranged or damaged.
+pub fn any(seed: u64) -> Vec<u8> {
+    let mut random = Random::new(seed);
+    let pages = random.below(9);
+    let count = random.pick(&[0, 1, 20, 100, 400]);
+    let script = script(Random::new(random.word64()), pages, count);
+    match random.below(10) {
+        0 => rearranged(&script, &mut random),
+        1 | 2 => damaged(script.write(), &mut random),
+        _ => script.write(),
+    }
+}
+
+/// The scripts of the stored set: the fixed cases, runs over images of few pages, which keep the
+/// set small, and some of each kind of damage.
+pub fn stored(seed: u64) -> Vec<Vec<u8>> {
+    let mut random = Random::new(seed);
+    let mut fresh = || Random::new(random.word64());
+    let mut scripts = cases::all();
+    for pages in [
+        1, 1, 1, 2, 1, 1, 3, 1, 1, 2, 1, 0, 1, 1, 4, 1, 1, 2, 1, 1, 3, 1, 2,
+    ] {
+        scripts.push(script(fresh(), pages, 90).write());
+    }
+    for round in 0..30 {
+        let script = script(fresh(), u32::from(round % 5 == 0), 8);
+        scripts.push(match round % 10 {
+            0 => rearranged(&script, &mut fresh()),
+            _ => damaged(script.write(), &mut fresh()),
+        });
+    }
+    scripts
+}
+
+/// A good script with an image of `pages` pages and about `count` events.
+pub fn script(random: Random, pages: u32, count: usize) -> Script {
+    let mut random = random;
+    let base = base(&mut random, pages);
+    let last = random.pick(&[0, 1, 8, 8, 8, u32::MAX]);
+    let layout = Layout::new(base, pages);
+    let image = layout.image(&mut random);
+    let mut run = Run::new(random, layout);
+    let mut long_sweeps = u32::from(run.random.chance(4));
+    while run.events.len() < count {
+        if pages > 0 && run.random.chance(15) {
+            run.stolen_slot();
+        }
+        if run.random.chance(10) {
+            source_edges(&mut run);
+        }
+        phase(&mut run, &mut long_sweeps);
+    }
+    Script {
+        events: run.events,
+        image,
+        base,
+        last,
+    }
+}
+
+/// A map at the bottom, where 2^32 wraps into it, in the middle, or at its topmost place.
+fn base(random: &mut Random, pages: u32) -> u32 {
+    random.pick(&[
+        0,
+        0,
+        0,
+        PAGE,
+        0x0004_0000,
+        0x7FFF_F000,
+        RESERVED - pages * PAGE,
+    ])
+}
+
+/// A source rises, is cleared, stays high, falls and rises again; the output is asked between.
+fn source_edges(run: &mut Run) {
+    let aux = run.random.below(16) as u16;
+    let steps = [
+        (KIND_ENABLE, 0, u16::MAX),
+        (KIND_SOURCE, 1, aux),
+        (KIND_OUTPUT, 0, 0),
+        (KIND_CLEAR, 0, 1 << aux),
+        (KIND_SOURCE, 1, aux),
+        (KIND_OUTPUT, 0, 0),
+        (KIND_SOURCE, 0, aux),
+        (KIND_SOURCE, 1, aux),
+        (KIND_OUTPUT, 0, 0),
+    ];
+    for (kind, size, aux) in steps {
+        let event = Event {
+            size,
+            aux,
+            ..run.noise(kind)
+        };
+        run.events.push(event);
+    }
+}
+
+/// Sets up one way of running, and then stays in it for some events.
+fn phase(run: &mut Run, long_sweeps: &mut u32) {
+    let translate = run.layout.pages > 0 && run.set_up();
+    for _ in 0..10 + run.random.below(30) {
+        let event = event(run, translate, long_sweeps);
+        run.events.push(event);
+    }
+}
+
+fn event(run: &mut Run, translate: bool, long_sweeps: &mut u32) -> Event {
+    let kind = kind(&mut run.random);
+    let mut event = run.noise(kind);
+    match kind {
+        KIND_LOAD | KIND_STORE | KIND_FETCH => {
+            event.size = size(&mut run.random);
+            event.a = run.address(translate);
+        }
+        KIND_READ | KIND_WRITE => {
+            event.aux = register(&mut run.random);
+            event.a = value(run, event.aux);
+        }
+        KIND_SOURCE => {
+            // Few sources, so that repeated highs and falls are frequent.
+            event.aux = match run.random.below(2) {
+                0 => run.random.pick(&[0, 3, 5]),
+                _ => source(&mut run.random) as u16,
+            };
+            event.size = run.random.pick(&[0, 1, 1, 1, 2, 0x80]);
+        }
+        KIND_CLEAR | KIND_ENABLE => event.aux = mask(&mut run.random),
+        KIND_EXTERNAL => {
+            event.a = edge(&mut run.random, &run.layout);
+            event.b = cache::length(&mut run.random, event.a, long_sweeps);
+        }
+        KIND_CACHE_READ | KIND_CACHE_WRITE => {
+            event.a = cache::register(&mut run.random);
+            event.b = cache::control(&mut run.random);
+        }
+        KIND_REGISTER => event.size = run.random.pick(&[0, 1, 28, 28, 29, 30, 31, 32, 33, 0xFF]),
+        _ => {}
+    }
+    event
+}
+
+fn kind(random: &mut Random) -> u8 {
+    match random.below(100) {
+        0..=19 => KIND_LOAD,
+        20..=31 => KIND_STORE,
+        32..=43 => KIND_FETCH,
+        44..=45 => KIND_TRAP,
+        46..=49 => KIND_IRET,
+        50..=55 => KIND_READ,
+        56..=62 => KIND_WRITE,
+        63..=68 => KIND_SOURCE,
+        69..=72 => KIND_CLEAR,
+        73..=75 => KIND_ENABLE,
+        76..=80 => KIND_EXTERNAL,
+        81..=85 => KIND_CACHE_READ,
+        86..=88 => KIND_CACHE_WRITE,
+        89 => KIND_RESET,
+        90..=93 => KIND_OUTPUT,
+        94..=97 => KIND_REGISTER,
+        _ => random.pick(&[16, 17, 0x80, 0xFF]),
+    }
+}
