@@ -4,7 +4,7 @@
 --   put-here, put-other, put-both       == a byte after one was written
 --   write-both, write-other             == a byte after several were written
 --   put-base, put-length, write-base, write-length      == the map stays
---   inside-same      == which addresses are inside depends on the map alone
+--   inside-same, outside-same     == which addresses are inside depends on the map alone
 use Prim.Native.Nat.{ℕ, _-_, _≤_, _<_}
 use mathlib.Core.Path.{_≡_, refl, sym, ap, _∙_}
 use mathlib.Core.Bool.{Bool, true, false, cond, _&&_}
@@ -16,7 +16,7 @@ use lib.Dec.{leb, ltb}
 use lib.ListN.{length, getD, set, length-set}
 use lib.Seq.{getD-set-same, getD-set-other}
 use borrow.Author.Tests.{leb-true, ltb-true}
-use Rattle.common.specs.Cases.{bool-is, cond-holds, and-left, and-right}
+use Rattle.common.specs.Cases.{absurd-eq, bool-is, cond-holds, and-left, and-right}
 use Rattle.common.specs.Lists.{Each}
 use Rattle.memory.specs.declared.Content.{Content}
 use Rattle.memory.specs.declared.Content.the-variants.{Value, Outside}
@@ -54,6 +54,14 @@ byte-inside m a h = rw h
 pub byte-outside : (m : Memory) (a : ℕ) → inside m a ≡ false → byteAt m a ≡ Outside
 unfolding byteAt
 byte-outside m a h = rw h
+
+-- an address that is outside one memory is outside another of the same map
+pub outside-same : (m m′ : Memory) → SameMap m m′ → (a : ℕ) → byteAt m a ≡ Outside → byteAt m′ a ≡ Outside
+outside-same m m′ same a h =
+    ⊎-elim
+    (λ (t : inside m a ≡ true). absurd-eq (let z : Value _ ≡ Outside = sym (byte-inside m a t) ∙ h in cc))
+    (λ (t : inside m a ≡ false). byte-outside m′ a (sym (inside-same m m′ same a) ∙ t))
+    (bool-is (inside m a))
 
 -- ---- writing one byte
 

@@ -2,6 +2,7 @@
 --
 --   written-append   == a text after another is written where that ended
 --   written-length   == the buffer keeps its length
+--   written-in       == a place within the buffer stays within it
 --   written-fits     == where there is room for all of it, the text stands there and the place is after it
 use Prim.Native.Nat.{ℕ, zero, suc, _+_, _-_, _*_, _/_, _%_, _^_, _≤_, _<_}
 use mathlib.Core.Path.{_≡_, refl, sym, ap, ap₂, _∙_}
@@ -13,8 +14,8 @@ use lib.Dec.{ltb}
 use lib.Pow.{pow-mono}
 use lib.ListN.{length, getD, set, take, drop, length-set, length-drop, drop-of-length-le}
 use lib.Seq.{sets, take-all, drop-cons, drop-set-lt, getD-set-same, lt-length-set}
-use borrow.Author.Tests.{lt-ltb, le-ltb}
-use Rattle.common.specs.Cases.{cond-holds}
+use borrow.Author.Tests.{lt-ltb, le-ltb, ltb-true}
+use Rattle.common.specs.Cases.{cond-holds, cond-case}
 use Rattle.text.specs.Text.{put, written, hexDigit, hexOf, decimalByte, decimalBefore}
 
 pub written-append : (w : List ℕ × ℕ) (s t : List ℕ) → written w (s ++ t) ≡ written (written w s) t
@@ -108,3 +109,19 @@ decimal-full z l first rest h p = let e : first ≡ 0 = omega arith in rw e (rw 
 pub rest-written : (w z : List ℕ × ℕ) (l text : List ℕ) (first n : ℕ) → length l ≡ n → text ≡ drop first l → z ≡ written w (take (n - first) (drop first l)) → z ≡ written w text
 rest-written w z l text first n h e p =
     p ∙ rw e (ap (written w) (take-all (n - first) (drop first l) (omega (arith, length-drop first l))))
+
+-- a place within the buffer stays within it
+put-in : (out : List ℕ) (at b : ℕ) → at ≤ length out → put (out, at) b .1 ≤ length out
+unfolding put
+put-in out at b h = cond-case (λ (w : List ℕ × ℕ). w .1 ≤ length out) (ltb at (length out)) (λ t. omega (arith, ltb-true at (length out) t)) (λ t. h)
+
+written-at : (w : List ℕ × ℕ) (text : List ℕ) → w .1 ≤ length (w .0) → written w text .1 ≤ length (w .0)
+unfolding written
+written-at w [] h = h
+written-at w (b ∷ text) h =
+    let kept = put-length (w .0) (w .1) b in
+    let next : put w b .1 ≤ length (put w b .0) = rw kept (put-in (w .0) (w .1) b h) in
+    rw kept at (written-at (put w b) text next)
+
+pub written-in : (out : List ℕ) (at : ℕ) (text out′ : List ℕ) (at′ : ℕ) → at ≤ length out → (out′, at′) ≡ written (out, at) text → at′ ≤ length out
+written-in out at text out′ at′ h e = rw (ap (λ (w : List ℕ × ℕ). w .1) e) (written-at (out, at) text h)
