@@ -80,7 +80,7 @@ module _ (base : ℕ) (l : List ℕ) (a : ℕ) where
   unfolding readAt gathered
   word-inside w h g e = rw (← (byte-inside base l a h (omega arith)), byte-next 1 h (omega arith), byte-next 2 h (omega arith), byte-next 3 h g, e)
 
--- the four ways through `good_map`
+-- the four ways through `good_range`
 module _ (base n : ℕ) where
   pub map-base : (base % 4096 ≡ 0 → ⊥) → false ≡ goodMap base n
   unfolding goodMap

@@ -16,21 +16,27 @@ pub enum Content {
     Outside,
 }
 
-// Refusal 2 is given exactly where this is false.
-pub fn good_map(mem: &[u8], base: u32) -> bool
-    ensures { λ r. ⌜ r ≡ goodMap base (length (now (mem .entry))) ⌝ }
+// A map of `len` bytes from `base` on. Refusal 2 is given exactly where this is false.
+pub fn good_range(base: u32, len: u64) -> bool
+    ensures { λ r. ⌜ r ≡ goodMap base len ⌝ }
 {
-    let len = mem.len();
     if base % 4096 != 0 {
         return false;
     }
-    if len % 4096 != 0 {
+    if len % PAGE_SIZE != 0 {
         return false;
     }
-    if len > 0xFFFF_0000 {
+    if len > MAP_END {
         return false;
     }
-    (base as u64) + (len as u64) <= MAP_END
+    (base as u64) + len <= MAP_END
+}
+
+// The same of lent memory.
+pub fn good_map(mem: &[u8], base: u32) -> bool
+    ensures { λ r. ⌜ r ≡ goodMap base (length (now (mem .entry))) ⌝ }
+{
+    good_range(base, mem.len() as u64)
 }
 
 pub fn read_byte(mem: &[u8], base: u32, addr: u32) -> Content

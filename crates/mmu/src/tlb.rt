@@ -7,6 +7,7 @@ ghost use Rattle.mmu.specs.Tlb.{firstMatch, noEntries, dropped, droppedP
 pub const TLB_ENTRIES: usize = 16;
 
 // One translation. The flags are the R, W, X and U bits of the leaf.
+#[repr(C)]
 pub struct TlbEntry {
     pub valid: bool,
     pub vpn: u32,

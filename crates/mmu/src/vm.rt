@@ -7,6 +7,7 @@ use crate::tlb::Slot;
 use crate::tlb::TLB_ENTRIES;
 use crate::tlb::TlbEntry;
 
+#[repr(C)]
 pub struct Vm {
     pub enabled: bool,
     pub ptbr: u32,

@@ -1,9 +1,13 @@
-// An event script's records: document 01, 'Event script and its listing'.
+// An event script: document 01, 'Event script and its listing'. Here its events; `header` has its header and its image.
 ghost use mathlib.Core.Path.{_≡_};
 ghost use Prim.Native.Nat.{_<_};
 ghost use Rattle.script.specs.Event.{byteOf, halfOf, wordOf, eventAt};
+ghost use Rattle.script.specs.Meaning.{Meaning};
+ghost use Rattle.script.specs.Corners.{Corners};
 use common::be_half;
 use common::be_word;
+
+pub mod header;
 
 pub const EVENT_SIZE: usize = 12;
 
@@ -57,3 +61,13 @@ pub fn event_at(s: &[u8], at: usize) -> Event
         b: word_at(s, at, 8),
     }
 }
+
+// When each refusal is given, in the document's words.
+pub fn meaning()
+    ensures { λ _. ⌜ Meaning ⌝ }
+{}
+
+// Scripts at the limits of the refusals, and the document's whole case, computed.
+pub fn corners()
+    ensures { λ _. ⌜ Corners ⌝ }
+{}

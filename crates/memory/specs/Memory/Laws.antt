@@ -5,14 +5,15 @@
 --   write-both, write-other             == a byte after several were written
 --   put-base, put-length, write-base, write-length      == the map stays
 --   inside-same, outside-same     == which addresses are inside depends on the map alone
-use Prim.Native.Nat.{ℕ, _-_, _≤_, _<_}
+--   good-map-is      == the tests that a good map passes
+use Prim.Native.Nat.{ℕ, _+_, _-_, _%_, _≤_, _<_}
 use mathlib.Core.Path.{_≡_, refl, sym, ap, _∙_}
 use mathlib.Core.Bool.{Bool, true, false, cond, _&&_}
 use mathlib.Core.List.{List, [], _∷_, map}
 use mathlib.Core.Logic.{_≢_, ⊎-elim}
 use native.Mathlib.Decide.{ℕ-discrete}
 use native.Mathlib.Omega.{arith}
-use lib.Dec.{leb, ltb}
+use lib.Dec.{leb, ltb, eqb}
 use lib.ListN.{length, getD, set, length-set}
 use lib.Seq.{getD-set-same, getD-set-other}
 use borrow.Author.Tests.{leb-true, ltb-true}
@@ -20,7 +21,11 @@ use Rattle.common.specs.Cases.{absurd-eq, bool-is, cond-holds, and-left, and-ri
 use Rattle.common.specs.Lists.{Each}
 use Rattle.memory.specs.declared.Content.{Content}
 use Rattle.memory.specs.declared.Content.the-variants.{Value, Outside}
-use Rattle.memory.specs.Memory.{Memory, lent, inside, byteAt, readAt, putByte, putAt, allInside}
+use Rattle.memory.specs.Memory.{Memory, lent, goodMap, inside, byteAt, readAt, putByte, putAt, allInside}
+
+pub good-map-is : (base n : ℕ) → goodMap base n ≡ (eqb (base % 4096) 0 && eqb (n % 4096) 0 && leb (base + n) 0xFFFF_0000)
+unfolding goodMap
+good-map-is base n = refl
 
 -- two memories of one map: the same base and the same length
 pub record SameMap (m m′ : Memory) : Type 0 where

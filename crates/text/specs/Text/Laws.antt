@@ -4,19 +4,25 @@
 --   written-length   == the buffer keeps its length
 --   written-in       == a place within the buffer stays within it
 --   written-fits     == where there is room for all of it, the text stands there and the place is after it
+--   hex-length       == as many digits as asked for
+--   hex-eight        == the eight digits of a word
+--   decimal-length   == at most twenty digits
+--   decimal-below    == a number below 10^k has at most k digits
+--   decimal-step     == the lowest digit, and the digits before it
 use Prim.Native.Nat.{ℕ, zero, suc, _+_, _-_, _*_, _/_, _%_, _^_, _≤_, _<_}
 use mathlib.Core.Path.{_≡_, refl, sym, ap, ap₂, _∙_}
+use mathlib.Core.Bool.{cond}
 use mathlib.Core.List.{List, [], _∷_, _++_}
 use native.Mathlib.Omega.{arith}
-use native.Mathlib.Nat.{add-zero, div-eq-of-lt, lt-of-lt-of-le}
+use native.Mathlib.Nat.{add-zero, div-eq-of-lt, lt-of-lt-of-le, pow-suc}
 use native.Mathlib.Numerals.{add-one}
 use lib.Dec.{ltb}
 use lib.Pow.{pow-mono}
 use lib.ListN.{length, getD, set, take, drop, length-set, length-drop, drop-of-length-le}
 use lib.Seq.{sets, take-all, drop-cons, drop-set-lt, getD-set-same, lt-length-set}
-use borrow.Author.Tests.{lt-ltb, le-ltb, ltb-true}
+use borrow.Author.Tests.{lt-ltb, le-ltb, ltb-true, ltb-false}
 use Rattle.common.specs.Cases.{cond-holds, cond-case}
-use Rattle.text.specs.Text.{put, written, hexDigit, hexOf, decimalByte, decimalBefore}
+use Rattle.text.specs.Text.{put, written, hexByte, hexDigit, hexOf, decimalByte, decimalBefore, decimalOf}
 
 pub written-append : (w : List ℕ × ℕ) (s t : List ℕ) → written w (s ++ t) ≡ written (written w s) t
 unfolding written
@@ -125,3 +131,45 @@ written-at w (b ∷ text) h =
 
 pub written-in : (out : List ℕ) (at : ℕ) (text out′ : List ℕ) (at′ : ℕ) → at ≤ length out → (out′, at′) ≡ written (out, at) text → at′ ≤ length out
 written-in out at text out′ at′ h e = rw (ap (λ (w : List ℕ × ℕ). w .1) e) (written-at (out, at) text h)
+
+-- ---- how long numbers are as text, and their digits
+
+pub hex-length : (k v : ℕ) → length (hexOf k v) ≡ k
+unfolding hexOf
+hex-length zero v = refl
+hex-length (suc k) v = ap suc (hex-length k v)
+
+-- digit k of v, counted from the lowest
+abbrev pub digit : ℕ → ℕ → ℕ
+digit v k = hexByte (v / 2 ^ (4 * k) % 16)
+
+pub hex-eight : (v : ℕ) → hexOf 8 v ≡ digit v 7 ∷ digit v 6 ∷ digit v 5 ∷ digit v 4 ∷ digit v 3 ∷ digit v 2 ∷ digit v 1 ∷ digit v 0 ∷ []
+unfolding hexOf hexDigit
+hex-eight v = refl
+
+at-most : (k v : ℕ) (t : List ℕ) → length (decimalBefore k v t) ≤ k + length t
+unfolding decimalBefore
+at-most zero v t = omega arith
+at-most (suc k) v t =
+    cond-case (λ (l : List ℕ). length l ≤ suc k + length t) (ltb v 10) (λ e. omega arith)
+    (λ e. omega (arith, at-most k (v / 10) (decimalByte v ∷ t)))
+
+pub decimal-length : (v : ℕ) → length (decimalOf v) ≤ 20
+decimal-length v = at-most 20 v []
+
+below : (k j v : ℕ) (t : List ℕ) → v < 10 ^ suc j → length (decimalBefore k v t) ≤ suc j + length t
+unfolding decimalBefore
+below zero j v t h = omega arith
+below (suc k) zero v t h =
+    cond-case (λ (l : List ℕ). length l ≤ 1 + length t) (ltb v 10) (λ e. omega arith) (λ e. absurd (omega (arith, ltb-false v 10 e)))
+below (suc k) (suc j) v t h =
+    cond-case (λ (l : List ℕ). length l ≤ suc (suc j) + length t) (ltb v 10) (λ e. omega arith)
+    (λ e. omega (arith, below k j (v / 10) (decimalByte v ∷ t) (omega (arith, pow-suc 10 (suc j)))))
+
+pub decimal-below : (k v : ℕ) → 0 < k → v < 10 ^ k → length (decimalOf v) ≤ k
+decimal-below zero v g h = absurd (omega arith)
+decimal-below (suc k) v g h = omega (arith, below 20 k v [] h)
+
+pub decimal-step : (k v : ℕ) (t : List ℕ) → decimalBefore (suc k) v t ≡ cond (ltb v 10) (decimalByte v ∷ t) (decimalBefore k (v / 10) (decimalByte v ∷ t))
+unfolding decimalBefore
+decimal-step k v t = refl

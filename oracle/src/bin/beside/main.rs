@@ -1,8 +1,11 @@
 //! The program `beside`: drives the published modules and the port, linked as a static library,
 //! with the same random operations, and compares after each.
 
+mod cache;
 mod compare;
 mod irqc;
+mod mmu;
+mod speed;
 
 use std::env;
 use std::process::ExitCode;
@@ -10,8 +13,11 @@ use std::process::ExitCode;
 const HELP: &str = "\
 The published SRC32 modules beside the port, in one process.
 
-  beside irqc [--seed S] [--count N]    the interrupt controller
-  beside --help                         this text
+  beside irqc [--seed S] [--count N]     the interrupt controller
+  beside cache [--seed S] [--count N]    the L1 tag cache
+  beside mmu [--seed S] [--count N]      TLB, walk and page check
+  beside speed [--count N]               nanoseconds a load of the cache takes
+  beside --help                          this text
 
 Seed (1) and count (1000000) are decimal. Prints how many operations agreed, or the first
 difference and the operations since the last reset; the status is then 1.
@@ -27,6 +33,9 @@ fn main() -> ExitCode {
     let arguments: Vec<String> = env::args().skip(1).collect();
     let done = match arguments.first().map(String::as_str) {
         Some("irqc") => options(&arguments[1..]).and_then(|o| irqc::run(o.seed, o.count)),
+        Some("cache") => options(&arguments[1..]).and_then(|o| cache::run(o.seed, o.count)),
+        Some("mmu") => options(&arguments[1..]).and_then(|o| mmu::run(o.seed, o.count)),
+        Some("speed") => options(&arguments[1..]).and_then(|o| speed::run(o.count)),
         Some("--help" | "-h" | "help") => Ok(HELP.to_string()),
         Some(other) => Err(format!("unknown component: {other}\n\n{HELP}")),
         None => Err(format!("a component is missing\n\n{HELP}")),

@@ -1,0 +1,16 @@
+-- `bridge::cache_calls::counted` meets its contract, case by case. Assumes nothing.
+use borrow.Author.Needs.{needs}
+use Rattle.bridge.proofs.cache_calls.counted.Statement.{statement}
+use Rattle.bridge.proofs.cache_calls.counted.Tie as tie
+
+wrapping-add-u32-requires : tie.Need-wrapping-add-u32-requires
+wrapping-add-u32-requires c κs = search needs
+
+returns : tie.Need-returns
+returns c = rw (c .before .if1 .taken) (c .wrapping-add-u32 .ensures)
+
+returns-2 : tie.Need-returns-2
+returns-2 c = search needs
+
+pub counted-spec : {M : Type 1} → statement M
+counted-spec = tie.close (tie.spec wrapping-add-u32-requires returns returns-2)

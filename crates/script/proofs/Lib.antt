@@ -1,0 +1,4 @@
+pub mod Headers
+pub mod Copies
+pub mod Sentences
+pub mod Figures
