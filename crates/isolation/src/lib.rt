@@ -1,0 +1,19 @@
+// Isolation: what the port is for. A user's accesses neither show nor change what is sealed off from them.
+//
+// Nothing here is run: each function's contract is a theorem about the machine's combined access.
+ghost use Rattle.isolation.specs.Demand3.{Demand3, Integrity, Confidentiality};
+
+// Demand 3, for accesses of any number, at every address and size, refused ones included.
+pub fn demand_three()
+    ensures { λ _. ⌜ Demand3 ⌝ }
+{}
+
+// What the pit task cannot write, it cannot change.
+pub fn integrity()
+    ensures { λ _. ⌜ Integrity ⌝ }
+{}
+
+// What is sealed off from the pit task, it learns nothing of.
+pub fn confidentiality()
+    ensures { λ _. ⌜ Confidentiality ⌝ }
+{}

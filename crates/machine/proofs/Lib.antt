@@ -1,0 +1,4 @@
+pub mod States
+pub mod Accesses
+pub mod Events
+pub mod Runs

@@ -1,0 +1,4 @@
+pub mod State
+pub mod Access
+pub mod Event
+pub mod Run

@@ -1,0 +1,50 @@
+-- A run: its events' steps, one after the other, and its listing. Document 01, 'Event script and its listing'.
+--
+--   Run                   == what a run leaves of machine and memory, and the lines that it shows
+--   runFrom n s at M m    == n events of the script s, the first at place `at`, each stepped on what the one before it left
+--   scriptRun s h         == a good script's run: a new machine over the image
+--   listingOf s           == what a script prints: its run's lines and the last line, or only `refused` and its number
+use Prim.Native.Nat.{ℕ, zero, suc, _+_}
+use mathlib.Core.List.{List, [], _∷_, _++_}
+use lib.ListN.{length}
+use Rattle.common.specs.Refusal.{refusalNumber}
+use Rattle.listing.specs.Listing.{listingText, refusedText}
+use Rattle.listing.specs.declared.Line.{Line}
+use Rattle.memory.specs.Memory.{Memory, lent}
+use Rattle.script.specs.Event.{eventAt}
+use Rattle.script.specs.Header.{scriptOf}
+use Rattle.script.specs.Image.{bytesFrom}
+use Rattle.script.specs.declared.header.Header.{Header}
+use Rattle.script.specs.declared.header.Script.{Script}
+use Rattle.script.specs.declared.header.Script.the-variants.{Good, Refused}
+use Rattle.machine.specs.Event.{Step, stepOf}
+use Rattle.machine.specs.State.{newMachine}
+use Rattle.machine.specs.declared.state.Machine.{Machine}
+pub mod Laws
+
+pub record Run : Type 0 where
+  pub machine : Machine
+  pub memory : Memory
+  pub lines : List Line
+
+-- a line in front of the rest's
+abbrev pub after : Line → Run → Run
+after l r = record { machine = r .machine; memory = r .memory; lines = l ∷ r .lines }
+
+unfoldable pub runFrom : ℕ → List ℕ → ℕ → Machine → Memory → Run
+runFrom zero s at M m = record { machine = M; memory = m; lines = [] }
+runFrom (suc n) s at M m =
+    let step = stepOf M m (eventAt s at) in
+    after (step .stepped .line) (runFrom n s (at + 12) (step .stepped .machine) (step .memory))
+
+unfoldable pub scriptRun : List ℕ → Header → Run
+scriptRun s h =
+    runFrom (h .events) s (h .«events_at») (newMachine (h .base) (h .image) (h .penalty)) (lent (h .base) (bytesFrom s (h .«image_at») (h .image)))
+
+-- by what the header says
+unfoldable pub listed : List ℕ → Script → List ℕ
+listed s (Good h) = listingText (scriptRun s h .lines)
+listed s (Refused r) = refusedText (refusalNumber r)
+
+unfoldable pub listingOf : List ℕ → List ℕ
+listingOf s = listed s (scriptOf s)

@@ -1,0 +1,42 @@
+-- The figures, by computing. Assumes nothing.
+use mathlib.Core.Path.{refl, ap}
+use Rattle.common.specs.Bits.{bitSet}
+use Rattle.common.specs.Refusal.{refusalNumber}
+use Rattle.mmu.specs.Exception.{causeOf}
+use Rattle.mmu.specs.declared.vm.Vm.{Vm}
+use Rattle.privilege.specs.Access.{fetchSize, dataSize, legalSize, allowsOf}
+use Rattle.privilege.specs.Addresses.{stepped}
+use Rattle.privilege.specs.Corners.{Corners}
+use Rattle.privilege.specs.FromMmu.{flushed-is}
+use Rattle.privilege.specs.Region.{grantsOf, someGrants, allAllowed, fieldOf, withField}
+use Rattle.privilege.specs.Registers.{regionField, srRead, srWritten, vmPtbr}
+use Rattle.privilege.specs.State.{noRegions, statusOf, statusSet}
+use Rattle.privilege.specs.Trap.{trapped, returned}
+use Rattle.privilege.specs.declared.registers.SrRead.the-variants.{Value}
+
+pub corners-hold : Corners
+unfolding bitSet refusalNumber causeOf fetchSize dataSize legalSize allowsOf stepped grantsOf someGrants allAllowed fieldOf withField regionField srRead srWritten noRegions statusOf statusSet trapped returned
+corners-hold =
+    record {
+      p1 = refl;
+      p2 = λ s reg. ap (λ (vm : Vm). Value (vm .ptbr)) (flushed-is (vmPtbr (s .vm) 0x1000));
+      p3 = λ s reg. (refl, refl, refl, refl);
+      p3-number = refl;
+      p4 = refl;
+      p5 = λ addr. refl;
+      p6 = (refl, refl);
+      p7 = (refl, refl, refl, refl, refl, refl);
+      p12 = λ reg. refl;
+      before-region = refl;
+      other-access = refl;
+      word-in = refl;
+      word-over = refl;
+      around = refl;
+      numbers = refl;
+      whole-number = λ s reg. refl;
+      status-all = (refl, refl);
+      there-and-back = (refl, refl, refl);
+      vctl = λ s reg. (refl, refl);
+      wide-frame = refl;
+      sizes = (refl, refl, refl, refl, refl, refl, refl, refl);
+    }

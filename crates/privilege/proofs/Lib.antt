@@ -1,0 +1,10 @@
+pub mod States
+pub mod Traps
+pub mod Regions
+pub mod Numbers
+pub mod Checks
+pub mod Transfers
+pub mod Views
+pub mod Figures
+pub mod Listed
+pub mod Sentences

@@ -1,0 +1,13 @@
+pub mod FromMemory
+pub mod FromMmu
+pub mod Addresses
+pub mod State
+pub mod Trap
+pub mod Region
+pub mod Registers
+pub mod Access
+pub mod Transfer
+pub mod Debug
+pub mod Confined
+pub mod Meaning
+pub mod Corners

@@ -1,0 +1,105 @@
+// Regions: which addresses a user may touch while translation is off.
+ghost use mathlib.Core.Path.{_≡_};
+ghost use Rattle.privilege.specs.Addresses.{stepped};
+ghost use Rattle.privilege.specs.Region.{grantsOf, someGrants, byteAllowed, allAllowed, fieldOf, withField};
+use mmu::check::CPU_RESERVED_BASE;
+use mmu::exception::Access;
+use mmu::exception::region_bit;
+
+pub const REGION_COUNT: usize = 8;
+
+pub struct Region {
+    pub start: u32,
+    // Exclusive.
+    pub end: u32,
+    // Bit 0 R, bit 1 W, bit 2 X.
+    pub flags: u32,
+}
+
+impl Region {
+    pub fn grants(self, addr: u32, access: Access) -> bool
+        ensures { λ r. ⌜ r ≡ grantsOf self addr access ⌝ }
+    {
+        if self.flags & region_bit(access) == 0 {
+            return false;
+        }
+        if addr < self.start {
+            return false;
+        }
+        addr < self.end
+    }
+
+    // START, END and FLAGS, as a register's place in its region.
+    pub fn field(self, field: usize) -> u32
+        ensures { λ r. ⌜ r ≡ fieldOf self field ⌝ }
+    {
+        match field {
+            0 => self.start,
+            1 => self.end,
+            _ => self.flags,
+        }
+    }
+
+    pub fn with_field(mut self, field: usize, value: u32) -> Self
+        ensures { λ r. ⌜ r ≡ withField self field value ⌝ }
+    {
+        match field {
+            0 => {
+                self.start = value;
+                self
+            }
+            1 => {
+                self.end = value;
+                self
+            }
+            _ => {
+                self.flags = value & 7;
+                self
+            }
+        }
+    }
+}
+
+fn some_grants(regions: [Region; 8], addr: u32, access: Access) -> bool
+    ensures { λ r. ⌜ r ≡ someGrants regions addr access ⌝ }
+{
+    let mut i: usize = 0;
+    loop {
+        if i >= REGION_COUNT {
+            break false;
+        }
+        let region = regions[i];
+        if region.grants(addr, access) {
+            break true;
+        }
+        i += 1;
+    }
+}
+
+fn byte_allowed(regions: [Region; 8], addr: u32, access: Access) -> bool
+    ensures { λ r. ⌜ r ≡ byteAllowed regions access addr ⌝ }
+{
+    if addr >= CPU_RESERVED_BASE {
+        return false;
+    }
+    some_grants(regions, addr, access)
+}
+
+// Every byte of an access.
+pub fn all_allowed(regions: [Region; 8], addr: u32, len: u32, access: Access) -> bool
+    ensures { λ r. ⌜ r ≡ allAllowed regions access (stepped len addr) ⌝ }
+{
+    let mut byte = addr;
+    let mut left = len;
+    loop {
+        if left == 0 {
+            break true;
+        }
+        if byte_allowed(regions, byte, access) {
+            byte = std::num::wrapping_add_u32(byte, 1);
+            left -= 1;
+        } else {
+            break false;
+        }
+    }
+}

@@ -1,0 +1,171 @@
+// Data access after a successful check: where a byte is, loads and stores.
+ghost use mathlib.Core.Path.{_≡_};
+ghost use mathlib.Core.Bool.{_&&_};
+ghost use Prim.Native.Nat.{_≤_, _<_, _%_, _/_, _^_};
+ghost use Rattle.common.specs.Bytes.{bytesOf};
+ghost use Rattle.memory.specs.Memory.{lent, readAt, putAt, allInside};
+ghost use Rattle.privilege.specs.Transfer.{frameOf, joinedTo, physicalOf, spots, dataRead, dataWritten, memoryAfter, readOf};
+use crate::check::data_size;
+use crate::state::PAGE_SIZE;
+use crate::state::SystemState;
+use common::Refusal;
+use memory::Content;
+use memory::good_map;
+use memory::put_byte;
+use memory::read_byte;
+use memory::read_word;
+use mmu::tlb::Slot;
+use mmu::vm::Vm;
+
+pub enum DataRead {
+    Value(u32),
+    BusError,
+    Refused(Refusal),
+}
+
+pub enum DataWritten {
+    Done,
+    BusError,
+    Refused(Refusal),
+}
+
+// The page number that a resident page leads to, 0 where none is.
+fn frame_of(vm: Vm, va: u32) -> u32
+    ensures { λ r. ⌜ r ≡ frameOf vm va ⌝ }
+{
+    let slot = vm.lookup(va >> 12);
+    match slot {
+        Slot::At(i) => vm.tlb[i].ppn,
+        Slot::Nothing => 0,
+    }
+}
+
+// The address of `va`'s byte in a physical page.
+pub fn join(ppn: u32, va: u32) -> u32
+    ensures { λ r. ⌜ r ≡ joinedTo ppn va ⌝ }
+{
+    (ppn << 12) | (va & (PAGE_SIZE - 1))
+}
+
+// Byte `place` of a value, counted from the lowest.
+fn byte_of(value: u32, place: u32) -> u8
+    requires { ⌜ place < 4 ⌝ }
+    ensures { λ r. ⌜ r ≡ value / 256 ^ place % 256 ⌝ }
+{
+    ((value >> (8 * place)) % 256) as u8
+}
+
+fn and(a: bool, b: bool) -> bool
+    ensures { λ r. ⌜ r ≡ a && b ⌝ }
+{
+    if a { b } else { false }
+}
+
+fn read_of(content: Content) -> DataRead
+    ensures { λ r. ⌜ r ≡ readOf content ⌝ }
+{
+    match content {
+        Content::Value(value) => DataRead::Value(value),
+        Content::Outside => DataRead::BusError,
+    }
+}
+
+impl SystemState {
+    // The physical address of a byte that `check_access` has allowed. The TLB is looked up again.
+    pub fn physical(self, va: u32) -> u32
+        ensures { λ r. ⌜ r ≡ physicalOf self va ⌝ }
+    {
+        if self.translating() {
+            let vm = self.vm;
+            return join(frame_of(vm, va), va);
+        }
+        va
+    }
+
+    // Big-endian load of 1, 2 or 4 bytes.
+    pub fn read_data(self, mem: &[u8], base: u32, va: u32, size: u32) -> DataRead
+        ensures { λ r. ⌜ r ≡ dataRead (lent base (now (mem .entry))) self va size ⌝ }
+    {
+        if good_map(mem, base) {
+            if data_size(size) {
+                return read_of(self.read_spots(mem, base, va, size));
+            }
+            return DataRead::Refused(Refusal::Size);
+        }
+        DataRead::Refused(Refusal::Map)
+    }
+
+    // A word inside a page takes one lookup.
+    fn read_spots(self, mem: &[u8], base: u32, va: u32, size: u32) -> Content
+        requires { ⌜ size ≤ 4 ⌝ }
+        ensures { λ r. ⌜ r ≡ readAt (lent base (now (mem .entry))) (spots self va size) ⌝ }
+    {
+        if va % PAGE_SIZE <= PAGE_SIZE - 4 {
+            if size == 4 {
+                return read_word(mem, base, self.physical(va));
+            }
+        }
+        self.read_bytes(mem, base, va, size)
+    }
+
+    fn read_bytes(self, mem: &[u8], base: u32, va: u32, size: u32) -> Content
+        requires { ⌜ size ≤ 4 ⌝ }
+        ensures { λ r. ⌜ r ≡ readAt (lent base (now (mem .entry))) (spots self va size) ⌝ }
+    {
+        let mut value: u32 = 0;
+        let mut at = va;
+        let mut left = size;
+        loop {
+            if left == 0 {
+                break Content::Value(value);
+            }
+            let byte = read_byte(mem, base, self.physical(at));
+            let Content::Value(b) = byte else {
+                break Content::Outside;
+            };
+            value = value * 256 + b;
+            at = std::num::wrapping_add_u32(at, 1);
+            left -= 1;
+        }
+    }
+
+    // Big-endian store of 1, 2 or 4 bytes. Bytes outside are not written, the others are.
+    pub fn write_data(
+        self,
+        mem: &mut [u8],
+        base: u32,
+        va: u32,
+        size: u32,
+        value: u32,
+    ) -> DataWritten
+        ensures { λ r. ⌜ (r ≡ dataWritten (lent base (now (mem .entry))) self va size) × (now (mem .exit) ≡ memoryAfter (lent base (now (mem .entry))) self va size value .bytes) ⌝ }
+    {
+        if good_map(mem, base) {
+            if data_size(size) {
+                if self.write_bytes(mem, base, va, size, value) {
+                    return DataWritten::Done;
+                }
+                return DataWritten::BusError;
+            }
+            return DataWritten::Refused(Refusal::Size);
+        }
+        DataWritten::Refused(Refusal::Map)
+    }
+
+    // Whether all bytes were inside.
+    fn write_bytes(self, mem: &mut [u8], base: u32, va: u32, size: u32, value: u32) -> bool
+        requires { ⌜ size ≤ 4 ⌝ }
+        ensures { λ r. ⌜ (r ≡ allInside (lent base (now (mem .entry))) (spots self va size)) × (now (mem .exit) ≡ putAt (lent base (now (mem .entry))) (spots self va size) (bytesOf size value) .bytes) ⌝ }
+    {
+        let mut all = true;
+        let mut at = va;
+        let mut left = size;
+        while left > 0 {
+            left -= 1;
+            let was = put_byte(mem, base, self.physical(at), byte_of(value, left));
+            all = and(all, was);
+            at = std::num::wrapping_add_u32(at, 1);
+        }
+        all
+    }
+}
