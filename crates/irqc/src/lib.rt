@@ -6,6 +6,8 @@ ghost use mathlib.Core.Path.{_≡_};
 ghost use Rattle.irqc.specs.Irqc.{newController, sourceSet, levelsSet, eachSet, pendingCleared, maskSet, outputOf, byteRead, byteWritten};
 ghost use Rattle.irqc.specs.Meaning.{Meaning};
 
+pub mod lent;
+
 const SOURCE_COUNT: u32 = 16;
 
 #[repr(C)]

@@ -10,11 +10,11 @@ use crate::state::Machine;
 use listing::put_end;
 use listing::put_line;
 use listing::put_refused;
-use script::event_at;
 use script::header::Header;
 use script::header::Script;
 use script::header::copy_image;
 use script::header::header_of;
+use script::reader::event_of;
 
 pub struct Ran {
     pub machine: Machine,
@@ -42,7 +42,7 @@ impl Machine {
         let mut place = at;
         let mut k: u32 = 0;
         while k < count {
-            let event = event_at(script, (first as usize) + 12 * (k as usize));
+            let event = event_of(script, (first as usize) + 12 * (k as usize));
             let stepped = machine.step(mem, base, event);
             let after = stepped.machine;
             machine = after;

@@ -8,6 +8,7 @@ use common::be_half;
 use common::be_word;
 
 pub mod header;
+pub mod reader;
 
 pub const EVENT_SIZE: usize = 12;
 

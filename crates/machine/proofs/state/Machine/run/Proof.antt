@@ -32,17 +32,17 @@ loop-holds : tie.Need-loop-holds Inv-loop μ-loop
 loop-holds c =
     (machine-first _ _ _ _ _ _, memory-first _ _ _ _ _ _, lines-first _ _ _ _ _ _ _ _ _, omega arith, refl, refl, search needs)
 
-cast-event-at : tie.Need-cast-event-at Inv-loop μ-loop
-cast-event-at c = search needs
+cast-event-of : tie.Need-cast-event-of Inv-loop μ-loop
+cast-event-of c = search needs
 
-mul-event-at : tie.Need-mul-event-at Inv-loop μ-loop
-mul-event-at c = search needs
+mul-event-of : tie.Need-mul-event-of Inv-loop μ-loop
+mul-event-of c = search needs
 
-add-event-at : tie.Need-add-event-at Inv-loop μ-loop
-add-event-at c = search needs
+add-event-of : tie.Need-add-event-of Inv-loop μ-loop
+add-event-of c = search needs
 
-event-at-requires : tie.Need-event-at-requires Inv-loop μ-loop
-event-at-requires c κs = search needs
+event-of-requires : tie.Need-event-of-requires Inv-loop μ-loop
+event-of-requires c κs = search needs
 
 step-requires : tie.Need-step-requires Inv-loop μ-loop
 step-requires c κs = search needs
@@ -80,10 +80,10 @@ run-spec =
     Inv-loop
     μ-loop
     loop-holds
-    cast-event-at
-    mul-event-at
-    add-event-at
-    event-at-requires
+    cast-event-of
+    mul-event-of
+    add-event-of
+    event-of-requires
     step-requires
     put-line-requires
     add-k

@@ -1,0 +1,4 @@
+pub mod Layouts
+pub mod Computed
+pub mod Shown
+pub mod Broken
