@@ -1,7 +1,6 @@
-//! Document 01's corner table on the published Rust: P1 to P12, and the corner that is only run.
+//! Document 01's corner table on the published Rust: P1 to P12. `corner.rs` has the corner that is only
+//! run.
 
-use oracle::access::{check, read, slots};
-use oracle::bus::Bus;
 use oracle::cpu::InstructionMode;
 use oracle::cpu_cache::L1Cache;
 use oracle::cpu_privilege::{Access, DebugTranslation, Exception, SystemState};
@@ -115,43 +114,4 @@ fn p12_iret_in_user_mode_keeps_the_registers() {
     let (_, mode) = sys.leave_trap(&mut reg);
     assert_eq!(reg[28..31], [1, 2, 3]);
     assert!(sys.user && mode == InstructionMode::Normal);
-}
-
-/// Tables in physical pages 1 and 2: page 6 leads to 0x21, pages 5 and 7 to 21 to page 3.
-fn corner_memory() -> Bus {
-    let mut bus = Bus::new(0, &[0; 0x22000]);
-    bus.write_u32_be(0x1000, 0x2001);
-    for page in 5..22 {
-        let frame = if page == 6 { 0x21 } else { 3 };
-        bus.write_u32_be(0x2000 + 4 * page, frame << 12 | 0x13);
-    }
-    for (at, byte) in [
-        (0xFFE, 0xA1),
-        (0xFFF, 0xA2),
-        (0x21000, 0xA3),
-        (0x21001, 0xA4),
-    ] {
-        bus.write_u8(at, byte);
-    }
-    bus
-}
-
-#[test]
-fn run_only_the_fill_takes_the_first_page() {
-    let mut bus = corner_memory();
-    let mut sys = SystemState::default();
-    sys.user = true;
-    sys.vm.enabled = true;
-    sys.vm.ptbr = 0x1000;
-    for page in [5].into_iter().chain(7..22) {
-        let (verdict, reads) = check(&mut sys, &mut bus, page << 12, 4, Access::Read);
-        assert_eq!((verdict, reads), (Ok(()), 2));
-    }
-    assert_eq!(sys.mmu_snapshot().next_victim, 0);
-    assert_eq!((slots(&sys)[0].valid, slots(&sys)[0].vpn), (true, 5));
-    let (verdict, reads) = check(&mut sys, &mut bus, 0x5FFE, 4, Access::Read);
-    assert_eq!((verdict, reads), (Ok(()), 2));
-    assert_eq!(slots(&sys)[0].vpn, 6);
-    assert_eq!(sys.physical(0x5FFE), 0xFFE);
-    assert_eq!(read(&sys, &mut bus, 0x5FFE, 4), Some(0xA1A2_A3A4));
 }

@@ -1,0 +1,111 @@
+-- `machine_replay::show_all` is safe and ends: each turn goes a script on, and what is lent lies in the input. Assumes nothing.
+use Prim.Native.Nat.{_≤_, _-_}
+use lib.ListN.{length}
+use borrow.Author.Needs.{needs}
+use Rattle.machine_replay.proofs.show_all.Statement.{statement}
+use Rattle.machine_replay.proofs.show_all.Tie as tie
+
+abbrev Inv-loop : tie.InvT-loop
+Inv-loop input at₀ at = at ≤ length input
+
+abbrev μ-loop : tie.MeasureT-loop
+μ-loop input at₀ at = length input - at
+
+loop-holds : tie.Need-loop-holds Inv-loop μ-loop
+loop-holds c = search needs
+
+sub-loop : tie.Need-sub-loop Inv-loop μ-loop
+sub-loop c = search needs
+
+shared-slice-read-be-word : tie.Need-shared-slice-read-be-word Inv-loop μ-loop
+shared-slice-read-be-word c = search needs
+
+add-be-word : tie.Need-add-be-word Inv-loop μ-loop
+add-be-word c = search needs
+
+shared-slice-read-be-word-2 : tie.Need-shared-slice-read-be-word-2 Inv-loop μ-loop
+shared-slice-read-be-word-2 c = search needs
+
+add-be-word-2 : tie.Need-add-be-word-2 Inv-loop μ-loop
+add-be-word-2 c = search needs
+
+shared-slice-read-be-word-3 : tie.Need-shared-slice-read-be-word-3 Inv-loop μ-loop
+shared-slice-read-be-word-3 c = search needs
+
+add-be-word-3 : tie.Need-add-be-word-3 Inv-loop μ-loop
+add-be-word-3 c = search needs
+
+shared-slice-read-be-word-4 : tie.Need-shared-slice-read-be-word-4 Inv-loop μ-loop
+shared-slice-read-be-word-4 c = search needs
+
+be-word-requires : tie.Need-be-word-requires Inv-loop μ-loop
+be-word-requires c κs = search needs
+
+cast-length : tie.Need-cast-length Inv-loop μ-loop
+cast-length c = search needs
+
+add-first : tie.Need-add-first Inv-loop μ-loop
+add-first c = search needs
+
+sub-if1 : tie.Need-sub-if1 Inv-loop μ-loop
+sub-if1 c = search needs
+
+returns : tie.Need-returns Inv-loop μ-loop
+returns c = search needs
+
+add-show : tie.Need-add-show Inv-loop μ-loop
+add-show c = search needs
+
+sub-show : tie.Need-sub-show Inv-loop μ-loop
+sub-show c = search needs
+
+part-show-start : tie.Need-part-show-start Inv-loop μ-loop
+part-show-start c = search needs
+
+part-show-end : tie.Need-part-show-end Inv-loop μ-loop
+part-show-end c = search needs
+
+show-requires : tie.Need-show-requires Inv-loop μ-loop
+show-requires c κs = search needs
+
+add-at : tie.Need-add-at Inv-loop μ-loop
+add-at c = search needs
+
+loop-less : tie.Need-loop-less Inv-loop μ-loop
+loop-less c = search needs
+
+loop-again : tie.Need-loop-again Inv-loop μ-loop
+loop-again c = search needs
+
+returns-2 : tie.Need-returns-2 Inv-loop μ-loop
+returns-2 c = search needs
+
+pub show-all-spec : {M : Type 1} → statement M
+show-all-spec =
+    tie.close
+    (tie.spec
+    Inv-loop
+    μ-loop
+    loop-holds
+    sub-loop
+    shared-slice-read-be-word
+    add-be-word
+    shared-slice-read-be-word-2
+    add-be-word-2
+    shared-slice-read-be-word-3
+    add-be-word-3
+    shared-slice-read-be-word-4
+    be-word-requires
+    cast-length
+    add-first
+    sub-if1
+    returns
+    add-show
+    sub-show
+    part-show-start
+    part-show-end
+    show-requires
+    add-at
+    loop-less
+    loop-again
+    returns-2)

@@ -1,0 +1,24 @@
+// Replays scripts from standard input and writes the listing of each, with the whole state after each event's line.
+//
+// The scripts stand in a row, each behind its length in four bytes.
+use common::be_word;
+
+// A script that the input's end cuts off is left out.
+fn show_all(input: &[u8]) {
+    let mut at: usize = 0;
+    while input.len() - at >= 4 {
+        let length = be_word(input[at], input[at + 1], input[at + 2], input[at + 3]) as usize;
+        let first = at + 4;
+        if length > input.len() - first {
+            return;
+        }
+        inspection::show(&input[first..first + length]);
+        at = first + length;
+    }
+}
+
+fn main() {
+    let mut input = [0u8; 524288];
+    let n = io::read_full(0, &mut input);
+    show_all(&input[..n]);
+}
