@@ -4,7 +4,8 @@
 //! `b`, 2 fetch of `size` bytes at `a`; 3 trap with EPC `a`, CAUSE `b`, Short if `aux` is odd;
 //! 4 IRET; 5 read system register `aux`; 6 write `a` to it; 7 check alone of access `b % 3` (read,
 //! write, fetch); 8 `allows` of the same; 9 `physical` of `a`; 10 `debug_translate` of `a`;
-//! 11 register `size % 32` becomes `a`; others change nothing.
+//! 11 register `size % 32` becomes `a`; 12 each system register number in order is written with `a`
+//! and read back, and the value is the digest of those answers; others change nothing.
 
 use crate::access::{self, physical_word, size_is_legal, slot_words};
 use crate::access::{REFUSED_REGISTER, REFUSED_SIZE};
@@ -27,6 +28,7 @@ pub const KIND_ALLOWS: u8 = 8;
 pub const KIND_PHYSICAL: u8 = 9;
 pub const KIND_TRANSLATE: u8 = 10;
 pub const KIND_REGISTER: u8 = 11;
+pub const KIND_EVERY_REGISTER: u8 = 12;
 
 /// An event's answer. The walk reads are those of checks.
 struct Answer {
@@ -53,6 +55,11 @@ impl Answer {
     fn refused(number: u32) -> Self {
         Self::new('N', number, 0)
     }
+
+    /// Letter and value, for a digest.
+    fn words(&self) -> [u32; 2] {
+        [u32::from(self.letter), self.value]
+    }
 }
 
 /// The published privilege state, the registers and the memory.
@@ -78,14 +85,8 @@ impl Published {
             KIND_FETCH => self.access(event, Access::Fetch),
             KIND_TRAP => self.trap(event),
             KIND_IRET => self.iret(),
-            KIND_READ => match self.sys.read_sr(event.aux, &self.reg) {
-                Some(value) => Answer::value(value),
-                None => Answer::refused(REFUSED_REGISTER),
-            },
-            KIND_WRITE => match self.sys.write_sr(event.aux, event.a, &mut self.reg) {
-                true => Answer::value(0),
-                false => Answer::refused(REFUSED_REGISTER),
-            },
+            KIND_READ => self.read_register(event.aux),
+            KIND_WRITE => self.write_register(event.aux, event.a),
             KIND_CHECK => self.checked(event, chosen_access(event), |_, _| Some(0)),
             KIND_ALLOWS => self.allows(event),
             KIND_PHYSICAL => Answer::value(self.sys.physical(event.a)),
@@ -94,8 +95,33 @@ impl Published {
                 self.reg[usize::from(event.size % 32)] = event.a;
                 Answer::value(0)
             }
+            KIND_EVERY_REGISTER => self.every_register(event.a),
             _ => Answer::value(0),
         }
+    }
+
+    fn read_register(&self, number: u16) -> Answer {
+        match self.sys.read_sr(number, &self.reg) {
+            Some(value) => Answer::value(value),
+            None => Answer::refused(REFUSED_REGISTER),
+        }
+    }
+
+    fn write_register(&mut self, number: u16, value: u32) -> Answer {
+        match self.sys.write_sr(number, value, &mut self.reg) {
+            true => Answer::value(0),
+            false => Answer::refused(REFUSED_REGISTER),
+        }
+    }
+
+    /// Each number on the state that the one before left.
+    fn every_register(&mut self, value: u32) -> Answer {
+        let digest = (0..=u16::MAX).fold(Digest::new(), |digest, number| {
+            let written = self.write_register(number, value);
+            let read = self.read_register(number);
+            digest.words(&written.words()).words(&read.words())
+        });
+        Answer::value(digest.value())
     }
 
     fn access(&mut self, event: &Event, access: Access) -> Answer {

@@ -90,7 +90,7 @@ fn mmu_replay() -> Answers {
 }
 
 const PRIVILEGE_SEED: u64 = 0x5157_0004;
-const PRIVILEGE_EVENTS: usize = 2000;
+const PRIVILEGE_EVENTS: usize = 2048;
 
 fn privilege_replay() -> Answers {
     let script = generate::privilege::script(PRIVILEGE_SEED, PRIVILEGE_EVENTS);

@@ -3,11 +3,13 @@
 // The input has the form of a script, whose last header word is unused; its image is the memory. Kinds: 0 load, 1 store of b,
 // 2 fetch of `size` bytes at a; 3 trap with EPC a, CAUSE b, Short if `aux` is odd; 4 IRET; 5 read system register `aux`; 6 write
 // a to it; 7 check alone of access b modulo 3 (read, write, fetch); 8 `allows` of the same; 9 `physical` of a; 10
-// `debug_translate` of a; 11 register `size` modulo 32 becomes a; others change nothing. A line has the answer's letter, value
-// and instruction mode, the words that a check's walks read, STATUS, EPC, CAUSE, and the digest of the rest.
+// `debug_translate` of a; 11 register `size` modulo 32 becomes a; 12 each system register number in order is written with a and
+// read back, and the value is the digest of those answers; others change nothing. A line has the answer's letter, value and
+// instruction mode, the words that a check's walks read, STATUS, EPC, CAUSE, and the digest of the rest.
 mod answer;
 mod line;
 mod operate;
+mod registers;
 mod witness;
 
 use privilege::state::SystemState;

@@ -1,6 +1,7 @@
 // One operation on the privilege state, the registers and the lent memory.
 use crate::answer;
 use crate::answer::Answer;
+use crate::registers::every_register;
 use common::Refusal;
 use mmu::exception::Access;
 use privilege::check::data_size;
@@ -104,6 +105,7 @@ pub fn step(sys: SystemState, reg: [u32; 32], mem: &mut [u8], base: u32, e: Even
         9 => answer::value(sys, reg, sys.physical(e.a)),
         10 => answer::translated(sys, reg, sys.debug_translate(mem, base, e.a)),
         11 => answer::value(sys, with_register(reg, e.size, e.a), 0),
+        12 => every_register(sys, reg, e.a),
         _ => answer::value(sys, reg, 0),
     }
 }

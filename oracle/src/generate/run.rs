@@ -84,7 +84,7 @@ impl Run {
     }
 
     /// IRET with PU set enters user mode.
-    fn enter_user(&mut self) {
+    pub fn enter_user(&mut self) {
         let status = 8 | self.random.below(32);
         self.write(SR_STATUS, status);
         self.push(KIND_IRET);
@@ -106,26 +106,51 @@ impl Run {
     fn grant(&mut self) {
         let map = (self.layout.base, self.layout.end());
         let (start, end) = self.random.pick(&[map, (0, u32::MAX)]);
+        self.grant_region(start, end);
+    }
+
+    /// Region 0 grants everything from `start` up to `end`.
+    pub fn grant_region(&mut self, start: u32, end: u32) {
         for (number, value) in [(0x10, start), (0x11, end), (0x12, 7)] {
             self.write(number, value);
         }
+    }
+
+    /// As supervisor: a root whose first word leads to a table. Says where both are.
+    fn own_table(&mut self) -> (u32, u32) {
+        self.push(KIND_TRAP);
+        let (root, table) = self.layout.root_and_table();
+        self.access(KIND_STORE, root, table | 1);
+        (root, table)
+    }
+
+    /// User mode, translated by this root.
+    fn enter_through(&mut self, root: u32) {
+        self.write(SR_VCTL, 1);
+        self.write(SR_PTBR, root);
+        self.enter_user();
+    }
+
+    /// User mode over a table whose words from the second on are these.
+    pub fn user_with_pages(&mut self, leaves: &[u32]) {
+        let (root, table) = self.own_table();
+        for (page, leaf) in (1..).zip(leaves) {
+            self.access(KIND_STORE, table + 4 * page, *leaf);
+        }
+        self.enter_through(root);
     }
 
     /// Page 0 sits in the slot that is filled next, all others are taken, and an access goes
     /// from page 0 into page 1, which has to be walked for: its fill takes page 0's slot. Then
     /// another slot is invalidated, and page 0, missing now, fills the next one all the same.
     pub fn stolen_slot(&mut self) {
-        self.push(KIND_TRAP);
-        let (root, table) = self.layout.root_and_table();
-        self.access(KIND_STORE, root, table | 1);
+        let (root, table) = self.own_table();
         let first = u32::from(root == table);
         for page in first..first + 17 {
             let frame = self.layout.frame(self.random.below(self.layout.pages));
             self.access(KIND_STORE, table + 4 * page, frame | 0x1F);
         }
-        self.write(SR_VCTL, 1);
-        self.write(SR_PTBR, root);
-        self.enter_user();
+        self.enter_through(root);
         for page in [first].into_iter().chain(first + 2..first + 17) {
             self.access(KIND_LOAD, page * PAGE, 0);
         }
