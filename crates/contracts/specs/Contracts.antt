@@ -1,0 +1,41 @@
+-- Every contract of the libraries, crate by crate: any two outcomes that it admits for one input coincide (`Settled.antt`).
+use contract.Lifetimes.{Lfts}
+use denote.Triple.Clauses.{Lasts}
+use denote.Triple.Entry.{Args}
+use Rattle.memory.proofs.put_byte
+use Rattle.contracts.specs.Settled.{Settled, theorem}
+use Rattle.contracts.specs.Common.{Common}
+use Rattle.contracts.specs.Text.{Text}
+use Rattle.contracts.specs.Digest.{Digest}
+use Rattle.contracts.specs.Irqc.{Irqc}
+use Rattle.contracts.specs.Cache.{Cache}
+use Rattle.contracts.specs.Memory.{Memory}
+use Rattle.contracts.specs.Mmu.{Mmu}
+use Rattle.contracts.specs.Privilege.{Privilege}
+use Rattle.contracts.specs.Tables.{Tables}
+use Rattle.contracts.specs.Script.{Script}
+use Rattle.contracts.specs.Listing.{Listing}
+use Rattle.contracts.specs.Machine.{Machine}
+use Rattle.contracts.specs.Bridge.{Bridge}
+
+pub record Contracts : Type 0 where
+  pub common : Common
+  pub text : Text
+  pub digest : Digest
+  pub irqc : Irqc
+  pub cache : Cache
+  pub memory : Memory
+  pub mmu : Mmu
+  pub privilege : Privilege
+  pub tables : Tables
+  pub script : Script
+  pub listing : Listing
+  pub machine : Machine
+  pub bridge : Bridge
+  -- a function that only promises, as `meaning`: already the contract that says nothing admits one outcome
+  pub theorems : Settled theorem (λ κs a r e. Unit {0})
+  -- the statement has content: a contract that says nothing of `put_byte` is not settled
+  pub loose :
+      (κs : Lfts 1) (a : Args (put_byte.ended .signature) κs) →
+      Lasts put_byte.ended κs a →
+      ¬ (Settled put_byte.ended (λ κs a r e. Unit {0}))

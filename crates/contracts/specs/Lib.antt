@@ -1,0 +1,15 @@
+pub mod Settled
+pub mod Common
+pub mod Text
+pub mod Digest
+pub mod Irqc
+pub mod Cache
+pub mod Memory
+pub mod Mmu
+pub mod Privilege
+pub mod Tables
+pub mod Script
+pub mod Listing
+pub mod Machine
+pub mod Bridge
+pub mod Contracts

@@ -1,0 +1,21 @@
+-- TLB, walk and page check: two outcomes that a contract of `mmu` admits coincide (`Settled.antt`).
+use Rattle.contracts.specs.Settled.{Settled}
+use Rattle.mmu.proofs as mmu
+
+pub record Mmu : Type 0 where
+  pub check-page : Settled mmu.vm.Vm.check_page.ended mmu.vm.Vm.check_page.Reads.Learnt
+  pub check-pages : Settled mmu.vm.Vm.check_pages.ended mmu.vm.Vm.check_pages.Reads.Learnt
+  pub region-bit : Settled mmu.exception.region_bit.ended mmu.exception.region_bit.Reads.Learnt
+  pub pte-bit : Settled mmu.exception.pte_bit.ended mmu.exception.pte_bit.Reads.Learnt
+  pub cause : Settled mmu.exception.Exception.cause.ended mmu.exception.Exception.cause.Reads.Learnt
+  pub vector : Settled mmu.exception.Exception.vector.ended mmu.exception.Exception.vector.Reads.Learnt
+  pub tlb-lookup : Settled mmu.tlb.lookup.ended mmu.tlb.lookup.Reads.Learnt
+  pub tlb-fill : Settled mmu.tlb.fill.ended mmu.tlb.fill.Reads.Learnt
+  pub tlb-invalidate : Settled mmu.tlb.invalidate.ended mmu.tlb.invalidate.Reads.Learnt
+  pub tlb-flush : Settled mmu.tlb.flush.ended mmu.tlb.flush.Reads.Learnt
+  pub new : Settled mmu.vm.Vm.new.ended mmu.vm.Vm.new.Reads.Learnt
+  pub vm-flush : Settled mmu.vm.Vm.flush.ended mmu.vm.Vm.flush.Reads.Learnt
+  pub vm-invalidate : Settled mmu.vm.Vm.invalidate.ended mmu.vm.Vm.invalidate.Reads.Learnt
+  pub vm-lookup : Settled mmu.vm.Vm.lookup.ended mmu.vm.Vm.lookup.Reads.Learnt
+  pub vm-fill : Settled mmu.vm.Vm.fill.ended mmu.vm.Vm.fill.Reads.Learnt
+  pub walk : Settled mmu.walk.walk.ended mmu.walk.walk.Reads.Learnt

@@ -1,0 +1,30 @@
+-- The privilege state: two outcomes that a contract of `privilege` admits coincide (`Settled.antt`).
+use Rattle.contracts.specs.Settled.{Settled}
+use Rattle.privilege.proofs as privilege
+
+pub record Privilege : Type 0 where
+  pub data-size : Settled privilege.check.data_size.ended privilege.check.data_size.Reads.Learnt
+  pub translating : Settled privilege.state.SystemState.translating.ended privilege.state.SystemState.translating.Reads.Learnt
+  pub allows : Settled privilege.state.SystemState.allows.ended privilege.state.SystemState.allows.Reads.Learnt
+  pub check-access : Settled privilege.state.SystemState.check_access.ended privilege.state.SystemState.check_access.Reads.Learnt
+  pub debug-translate : Settled privilege.state.SystemState.debug_translate.ended privilege.state.SystemState.debug_translate.Reads.Learnt
+  pub tlb-entry : Settled privilege.state.SystemState.tlb_entry.ended privilege.state.SystemState.tlb_entry.Reads.Learnt
+  pub grants : Settled privilege.region.Region.grants.ended privilege.region.Region.grants.Reads.Learnt
+  pub field : Settled privilege.region.Region.field.ended privilege.region.Region.field.Reads.Learnt
+  pub with-field : Settled privilege.region.Region.with_field.ended privilege.region.Region.with_field.Reads.Learnt
+  pub all-allowed : Settled privilege.region.all_allowed.ended privilege.region.all_allowed.Reads.Learnt
+  pub region-field : Settled privilege.registers.region_field.ended privilege.registers.region_field.Reads.Learnt
+  pub read-sr : Settled privilege.state.SystemState.read_sr.ended privilege.state.SystemState.read_sr.Reads.Learnt
+  pub write-sr : Settled privilege.state.SystemState.write_sr.ended privilege.state.SystemState.write_sr.Reads.Learnt
+  pub mode-of : Settled privilege.state.mode_of.ended privilege.state.mode_of.Reads.Learnt
+  pub new : Settled privilege.state.SystemState.new.ended privilege.state.SystemState.new.Reads.Learnt
+  pub status : Settled privilege.state.SystemState.status.ended privilege.state.SystemState.status.Reads.Learnt
+  pub with-status : Settled privilege.state.SystemState.with_status.ended privilege.state.SystemState.with_status.Reads.Learnt
+  pub set-status : Settled privilege.state.SystemState.set_status.ended privilege.state.SystemState.set_status.Reads.Learnt
+  pub join : Settled privilege.transfer.join.ended privilege.transfer.join.Reads.Learnt
+  pub physical : Settled privilege.state.SystemState.physical.ended privilege.state.SystemState.physical.Reads.Learnt
+  pub read-data : Settled privilege.state.SystemState.read_data.ended privilege.state.SystemState.read_data.Reads.Learnt
+  pub write-data : Settled privilege.state.SystemState.write_data.ended privilege.state.SystemState.write_data.Reads.Learnt
+  pub swap-bank : Settled privilege.state.SystemState.swap_bank.ended privilege.state.SystemState.swap_bank.Reads.Learnt
+  pub enter-trap : Settled privilege.state.SystemState.enter_trap.ended privilege.state.SystemState.enter_trap.Reads.Learnt
+  pub leave-trap : Settled privilege.state.SystemState.leave_trap.ended privilege.state.SystemState.leave_trap.Reads.Learnt
