@@ -7,7 +7,7 @@ use lib.Dec.{eqb}
 use borrow.Author.Tests.{eqb-true, eqb-false}
 use Rattle.common.specs.Cases.{absurd-eq}
 use Rattle.memory.specs.Memory.{Memory, byteAt}
-use Rattle.memory.specs.Memory.Laws.{SameMap}
+use Rattle.memory.specs.Memory.Laws.{same-map}
 use Rattle.mmu.specs.Opened.{TableByte, Opened}
 use Rattle.mmu.specs.declared.exception.Access.{Access}
 use Rattle.mmu.specs.declared.exception.Access.the-variants.{Write}
@@ -41,9 +41,6 @@ unfolding Demand3
 demand3 = isolated
 
 -- ---- in the words of the question
-
-same-map : (m : Memory) → SameMap m m
-same-map m = record { base = refl; size = refl }
 
 -- where nothing is hidden, the premises are the third alone
 nothing-hidden : (m : Memory) (vm : Vm) → TablesShut m vm → Sealed (λ a. false) m vm

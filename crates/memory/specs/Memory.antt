@@ -12,13 +12,14 @@
 -- Reads and writes are over a list of addresses: where an access's addresses come from is the question of the parts above.
 -- A second, read-only memory would change `Memory`, `byteAt`, `inside` and `putByte`, and none of what is said through them.
 use Prim.Native.Nat.{ℕ, _+_, _-_, _*_, _%_}
-use mathlib.Core.Bool.{Bool, true, false, cond, _&&_}
+use mathlib.Core.Bool.{Bool, true, cond, _&&_}
 use mathlib.Core.List.{List, [], _∷_, map}
 use lib.Dec.{leb, ltb, eqb}
 use lib.ListN.{length, getD, set}
 use Rattle.memory.specs.declared.Content.{Content}
 use Rattle.memory.specs.declared.Content.the-variants.{Value, Outside}
 pub mod Laws
+pub mod Bytewise
 
 pub record Memory : Type 0 where
   pub base : ℕ

@@ -27,12 +27,12 @@ use Rattle.mmu.specs.declared.walk.Walked.{Walked}
 use Rattle.mmu.specs.declared.walk.Walked.the-variants as walked
 use Rattle.mmu.specs.declared.walk.WalkAnswer.{WalkAnswer}
 use Rattle.mmu.specs.declared.exception.Access.{Access}
-use Rattle.mmu.specs.declared.exception.Exception.{Exception}
 use Rattle.mmu.specs.declared.exception.Exception.the-variants.{BusError, PageFault}
 use Rattle.mmu.specs.declared.check.Verdict.{Verdict}
 use Rattle.mmu.specs.declared.check.Verdict.the-variants.{Allowed, Denied}
 use Rattle.mmu.specs.declared.check.Checked.{Checked}
 pub mod Laws
+pub mod Pages
 
 abbrev pub pageAddr : ℕ → ℕ
 pageAddr p = p * 4096 % 2 ^ 32

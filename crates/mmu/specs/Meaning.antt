@@ -1,20 +1,21 @@
 -- What the MMU's definitions mean: document 01's sentences on TLB, walk and page check as laws.
 --
---   marked vpn e     == what TLBINV may change of an entry: its valid mark, where the page is the entry's
+--   slotOf vm i      == the entry at slot i
 --   Meaning          == the laws, one field a sentence
 --   Corners          == the corner table's figures that are the MMU's, computed
-use Prim.Native.Nat.{ℕ, _+_, _/_, _%_, _^_, _≤_, _<_}
+use Prim.Native.Nat.{ℕ, _+_, _*_, _/_, _%_, _^_, _≤_, _<_}
 use mathlib.Core.Path.{_≡_}
-use mathlib.Core.Bool.{Bool, true, false, cond, _&&_, not}
+use mathlib.Core.Bool.{true, false}
 use mathlib.Core.List.{List}
 use lib.Dec.{eqb}
 use lib.ListN.{length, getD, set}
 use Rattle.memory.specs.Memory.{Memory}
 use Rattle.mmu.specs.Exception.{causeOf}
-use Rattle.mmu.specs.Tlb.{noEntry, matches, firstMatch, droppedPage}
-use Rattle.mmu.specs.Vm.{victim, withTlb, filled}
+use Rattle.mmu.specs.Tlb.{noEntry, firstMatch, droppedPage}
+use Rattle.mmu.specs.Tlb.Laws.{markDropped}
+use Rattle.mmu.specs.Vm.{victim, withTlb}
 use Rattle.mmu.specs.Walk.{tableOk, leafOk, leafEntry, walkOf}
-use Rattle.mmu.specs.Check.{pageAddr, permits, faulted, judged, checkPage, pagesOf}
+use Rattle.mmu.specs.Check.{pageAddr, faulted, judged, checkPage, checkEach}
 use Rattle.mmu.specs.Opened.Laws.{TablesAgree, Passed}
 use Rattle.mmu.specs.declared.tlb.TlbEntry.{TlbEntry}
 use Rattle.mmu.specs.declared.tlb.Slot.the-variants.{At, Nothing}
@@ -24,9 +25,7 @@ use Rattle.mmu.specs.declared.exception.Access.{Access}
 use Rattle.mmu.specs.declared.exception.Access.the-variants.{Write}
 use Rattle.mmu.specs.declared.exception.Exception.the-variants.{Syscall, PageFault}
 use Rattle.mmu.specs.declared.check.Verdict.the-variants.{Allowed}
-use Rattle.mmu.specs.declared.check.Checked.{Checked}
 
--- the entry at slot i
 abbrev pub slotOf : Vm → ℕ → TlbEntry
 slotOf vm i = getD (vm .tlb) i noEntry
 
@@ -46,11 +45,12 @@ pub record Meaning : Type 0 where
       → Passed m vm k va (checkPage m vm k va)
   -- "Walk reads (added) are at most 2 for each page, a failed one included"
   pub few-reads : (m : Memory) (vm : Vm) (k : Access) (va : ℕ) → checkPage m vm k va .reads ≤ 2
+  pub few-reads-each : (m : Memory) (k : Access) (vm : Vm) (l : List ℕ) → checkEach m k vm l .reads ≤ 2 * length l
   -- a walk reads page tables alone
   pub tables-only : (m m′ : Memory) (ptbr va : ℕ) → va < 2 ^ 32 → TablesAgree m m′ ptbr → walkOf m ptbr va ≡ walkOf m′ ptbr va
   -- "TLBINV clears only the valid mark of that page's slots"
   pub invalidates : (vpn : ℕ) (l : List TlbEntry) (i : ℕ)
-      → getD (droppedPage vpn l) i noEntry ≡ (let e = getD l i noEntry in record { valid = e .valid && not (eqb (e .vpn) vpn); vpn = e .vpn; ppn = e .ppn; flags = e .flags })
+      → getD (droppedPage vpn l) i noEntry ≡ markDropped (eqb (getD l i noEntry .vpn) vpn) (getD l i noEntry)
 
 pub record Corners : Type 0 where
   -- P4 and P5

@@ -11,6 +11,7 @@ use lib.ListN.{set}
 use Rattle.mmu.specs.declared.tlb.TlbEntry.{TlbEntry}
 use Rattle.mmu.specs.declared.vm.Vm.{Vm}
 use Rattle.mmu.specs.Tlb.{noEntries, droppedPage}
+pub mod Laws
 
 -- the same registers with another TLB
 abbrev pub withTlb : Vm → List TlbEntry → ℕ → Vm

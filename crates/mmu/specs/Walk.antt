@@ -9,7 +9,7 @@
 --
 -- Of a table word bit 0 is V, 1 to 3 are R, W and X, 4 is U; 6 and 7 are reserved. The others are ignored.
 use Prim.Native.Nat.{ℕ, _+_, _*_, _/_, _%_}
-use mathlib.Core.Bool.{Bool, true, false, cond, not, _&&_, _||_}
+use mathlib.Core.Bool.{Bool, true, cond, not, _&&_, _||_}
 use lib.Dec.{eqb}
 use Rattle.common.specs.Bits.{bitSet}
 use Rattle.memory.specs.Memory.{Memory, readAt, wordSpots}
@@ -19,6 +19,7 @@ use Rattle.mmu.specs.declared.tlb.TlbEntry.{TlbEntry}
 use Rattle.mmu.specs.declared.walk.Walked.{Walked}
 use Rattle.mmu.specs.declared.walk.Walked.the-variants.{Leaf, Missing, BusError}
 use Rattle.mmu.specs.declared.walk.WalkAnswer.{WalkAnswer}
+pub mod Laws
 
 -- valid, and no reserved bit
 abbrev pub wellFormed : ℕ → Bool

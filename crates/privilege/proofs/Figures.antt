@@ -7,7 +7,7 @@ use Rattle.mmu.specs.declared.vm.Vm.{Vm}
 use Rattle.privilege.specs.Access.{fetchSize, dataSize, legalSize, allowsOf}
 use Rattle.privilege.specs.Addresses.{stepped}
 use Rattle.privilege.specs.Corners.{Corners}
-use Rattle.privilege.specs.FromMmu.{flushed-is}
+use Rattle.mmu.specs.Vm.Laws.{flushed-is}
 use Rattle.privilege.specs.Region.{grantsOf, someGrants, allAllowed, fieldOf, withField}
 use Rattle.privilege.specs.Registers.{regionField, srRead, srWritten, vmPtbr}
 use Rattle.privilege.specs.State.{noRegions, statusOf, statusSet}

@@ -17,7 +17,7 @@ use Rattle.mmu.specs.declared.exception.Access.{Access}
 use Rattle.privilege.specs.Access.{allowsOf, translatingOf}
 use Rattle.privilege.specs.Access.Laws.{check-bad-map, check-bad-size, check-good, legal-answers, by-supervisor, by-regions, by-pages}
 use Rattle.privilege.specs.Addresses.{stepped}
-use Rattle.privilege.specs.FromMmu.{flushed-is, invalidated-else, invalidated-entry}
+use Rattle.mmu.specs.Vm.Laws.{flushed-is, invalidated-else, invalidated-entry}
 use Rattle.privilege.specs.Meaning.{Registers, Meaning}
 use Rattle.privilege.specs.Region.{grantsOf, byteAllowed, allAllowed, fieldOf, withField}
 use Rattle.privilege.specs.Registers.{written, srRead, srWritten, vmPtbr}

@@ -20,7 +20,7 @@ use Rattle.mmu.specs.Tlb.{noEntry, firstMatch}
 use Rattle.mmu.specs.declared.tlb.Slot.{Slot}
 use Rattle.mmu.specs.declared.tlb.Slot.the-variants.{At, Nothing}
 use Rattle.mmu.specs.declared.vm.Vm.{Vm}
-use Rattle.privilege.specs.FromMemory.{readOn, read-none, read-value, read-outside, put-none, put-next, inside-none, inside-next}
+use Rattle.memory.specs.Memory.Bytewise.{readOn, read-none, read-value, read-outside, put-none, put-next, inside-none, inside-next}
 use Rattle.privilege.specs.Access.{dataSize, mapGood, translatingOf}
 use Rattle.privilege.specs.Transfer.{frameOf, joinedTo, physicalOf, spots, readOf, loadAt, storeAt, memoryAt, dataRead, dataWritten, memoryAfter}
 use Rattle.privilege.specs.Transfer.Laws.{spots-none, spots-next, word-spots}

@@ -1,5 +1,3 @@
-pub mod FromMemory
-pub mod FromMmu
 pub mod Addresses
 pub mod State
 pub mod Trap

@@ -21,7 +21,7 @@ use Rattle.mmu.specs.Tlb.{noEntry, noEntries}
 use Rattle.mmu.specs.declared.exception.Access.{Access}
 use Rattle.mmu.specs.declared.exception.Exception.the-variants.{ProtectionFault}
 use Rattle.privilege.specs.Access.{legalSize, mapGood, accessAnswered, fromPages, checkAccess, allowsOf}
-use Rattle.privilege.specs.FromMmu.{markDropped}
+use Rattle.mmu.specs.Tlb.Laws.{markDropped}
 use Rattle.privilege.specs.Region.{grantsOf, byteAllowed, fieldOf, withField}
 use Rattle.privilege.specs.Registers.{written, srRead, srWritten, vmEnabled}
 use Rattle.privilege.specs.State.{noRegion, bitIf, isShort, modeOf, statusOf, statusSet, withIe, withStatus, withEpc, withCause, withOther, withRegions, withVm}

@@ -15,7 +15,7 @@ use Rattle.common.specs.Cases.{and-left, and-right}
 use Rattle.common.specs.Bits.Laws.{clear-bit, set-bit, flag-is, field-is}
 use Rattle.mmu.specs.Check.{pageAddr}
 use Rattle.mmu.specs.Walk.{leafOk}
-use Rattle.tables.specs.FromMmu.{leaf-by-bits, leaf-alone}
+use Rattle.mmu.specs.Walk.Laws.{leaf-by-bits, leaf-alone}
 use Rattle.tables.specs.declared.mapping.Mapping.{Mapping}
 use Rattle.tables.specs.Mapping.{mapping, mappings, leafOf, onlyListed, goodBits, goodMapping, ascendingFrom, goodList, allGood, leafAt}
 use Rattle.tables.specs.Mapping.Laws.{good-ascending, mapping-next, none-left, pages-from, ascending-drop, leaf-above}

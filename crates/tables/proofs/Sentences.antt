@@ -10,9 +10,9 @@ use lib.Dec.{leb, ltb, eqb}
 use lib.ListN.{length, getD}
 use borrow.Author.Tests.{ltb-true, eqb-true, lt-ltb, le-ltb, le-leb, eq-eqb, ne-eqb}
 use Rattle.common.specs.Bits.{bitSet}
-use Rattle.common.specs.Cases.{bool-is, absurd-eq, and-left, and-right}
+use Rattle.common.specs.Cases.{bool-is, absurd-eq, and-left, and-right, lt-or-ge}
 use Rattle.memory.specs.Memory.{Memory, goodMap, inside, byteAt, readAt, wordSpots}
-use Rattle.memory.specs.Memory.Laws.{SameMap}
+use Rattle.memory.specs.Memory.Laws.{SameMap, inside-map, inside-bounds}
 use Rattle.memory.specs.declared.Content.the-variants.{Value}
 use Rattle.mmu.specs.Opened.{TableByte, Opened}
 use Rattle.mmu.specs.Walk.{wordOfTable, walkOf}
@@ -20,12 +20,12 @@ use Rattle.mmu.specs.Check.{pageAddr}
 use Rattle.mmu.specs.declared.exception.Access.{Access}
 use Rattle.mmu.specs.declared.vm.Vm.{Vm}
 use Rattle.mmu.specs.declared.walk.Walked.the-variants.{Leaf, Missing}
+use Rattle.mmu.specs.Walk.Laws.{leaf-by-bits}
+use Rattle.mmu.specs.Vm.Laws.{no-entries}
 use Rattle.tables.specs.declared.mapping.Mapping.{Mapping}
 use Rattle.tables.specs.declared.refusal.Refusal.{Refusal}
 use Rattle.tables.specs.declared.write.Tables.{Tables}
 use Rattle.tables.specs.declared.write.Tables.the-variants.{Written, Refused}
-use Rattle.tables.specs.FromMemory.{inside-map, inside-bounds}
-use Rattle.tables.specs.FromMmu.{lt-or-ge, leaf-by-bits, no-entries}
 use Rattle.tables.specs.Mapping.{mapping, mappings, leafAt, onlyListed, goodPage, goodMapping, allGood, ascendingFrom, goodList}
 use Rattle.tables.specs.Mapping.Laws.{good-short, good-ppns, good-bits, good-ascending, ascending-pairs, pairs-ascending}
 use Rattle.tables.specs.Words.Laws.{put-words-map}

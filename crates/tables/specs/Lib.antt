@@ -1,6 +1,4 @@
 pub mod Refusal
-pub mod FromMmu
-pub mod FromMemory
 pub mod Mapping
 pub mod Words
 pub mod Tables

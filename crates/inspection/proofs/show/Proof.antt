@@ -1,5 +1,6 @@
 -- `inspection::show` is safe: a good script's image fits the memory. Assumes nothing.
-use Rattle.inspection.proofs.Image.{image-fits, front-length}
+use mathlib.Core.Path.{sym}
+use Rattle.script.specs.Header.Laws.{image-fits, memory-length}
 use borrow.Author.Needs.{needs}
 use Rattle.inspection.proofs.show.Statement.{statement}
 use Rattle.inspection.proofs.show.Tie as tie
@@ -26,7 +27,7 @@ array-borrow-prefix-mem : tie.Need-array-borrow-prefix-mem
 array-borrow-prefix-mem c = search (image-fits, needs)
 
 slice-aggregate-show-good : tie.Need-slice-aggregate-show-good
-slice-aggregate-show-good c = search front-length
+slice-aggregate-show-good c = sym (search memory-length)
 
 show-good-requires : tie.Need-show-good-requires
 show-good-requires c κs = search needs

@@ -5,10 +5,13 @@
 --   write-both, write-other             == a byte after several were written
 --   put-base, put-length, write-base, write-length      == the map stays
 --   inside-same, outside-same     == which addresses are inside depends on the map alone
---   good-map-is      == the tests that a good map passes
+--   same-map         == a memory has its own map
+--   inside-map, inside-bounds     == inside is between the map's first address and its end
+--   good-map-is, good-map-end     == the tests that a good map passes; it ends at 0xFFFF0000 or before
+--   lent-put         == a byte written at a base keeps the base
 use Prim.Native.Nat.{ℕ, _+_, _-_, _%_, _≤_, _<_}
 use mathlib.Core.Path.{_≡_, refl, sym, ap, _∙_}
-use mathlib.Core.Bool.{Bool, true, false, cond, _&&_}
+use mathlib.Core.Bool.{true, false, _&&_}
 use mathlib.Core.List.{List, [], _∷_, map}
 use mathlib.Core.Logic.{_≢_, ⊎-elim}
 use native.Mathlib.Decide.{ℕ-discrete}
@@ -16,7 +19,7 @@ use native.Mathlib.Omega.{arith}
 use lib.Dec.{leb, ltb, eqb}
 use lib.ListN.{length, getD, set, length-set}
 use lib.Seq.{getD-set-same, getD-set-other}
-use borrow.Author.Tests.{leb-true, ltb-true}
+use borrow.Author.Tests.{leb-true, ltb-true, le-leb, lt-ltb}
 use Rattle.common.specs.Cases.{absurd-eq, bool-is, cond-holds, and-left, and-right}
 use Rattle.common.specs.Lists.{Each}
 use Rattle.memory.specs.declared.Content.{Content}
@@ -27,10 +30,28 @@ pub good-map-is : (base n : ℕ) → goodMap base n ≡ (eqb (base % 4096) 0 && 
 unfolding goodMap
 good-map-is base n = refl
 
+pub good-map-end : (base n : ℕ) → goodMap base n ≡ true → base + n ≤ 0xFFFF_0000
+unfolding goodMap
+good-map-end base n g = leb-true _ _ (and-right (eqb (base % 4096) 0 && eqb (n % 4096) 0) (leb (base + n) 0xFFFF_0000) g)
+
 -- two memories of one map: the same base and the same length
 pub record SameMap (m m′ : Memory) : Type 0 where
   pub base : m .base ≡ m′ .base
   pub size : length (m .bytes) ≡ length (m′ .bytes)
+
+pub same-map : (m : Memory) → SameMap m m
+same-map m = record { base = refl; size = refl }
+
+pub inside-map : (m : Memory) (a : ℕ) → m .base ≤ a → a < m .base + length (m .bytes) → inside m a ≡ true
+unfolding inside
+inside-map m a h g = rw (le-leb (m .base) a h, lt-ltb (a - m .base) (length (m .bytes)) (omega arith))
+
+pub inside-bounds : (m : Memory) (a : ℕ) → inside m a ≡ true → (m .base ≤ a) × (a < m .base + length (m .bytes))
+unfolding inside
+inside-bounds m a h =
+    let low = leb-true (m .base) a (and-left (leb (m .base) a) (ltb (a - m .base) (length (m .bytes))) h) in
+    let high = ltb-true (a - m .base) (length (m .bytes)) (and-right (leb (m .base) a) (ltb (a - m .base) (length (m .bytes))) h) in
+    (low, omega arith)
 
 pub inside-same : (m m′ : Memory) → SameMap m m′ → (a : ℕ) → inside m a ≡ inside m′ a
 unfolding inside
@@ -81,18 +102,13 @@ put-length m a b = cond-holds (λ (n : Memory). length (n .bytes) ≡ length (m 
 pub put-map : (m : Memory) (a b : ℕ) → SameMap (putByte m a b) m
 put-map m a b = record { base = put-base m a b; size = put-length m a b }
 
+pub lent-put : (m : Memory) (a b : ℕ) → lent (m .base) (putByte m a b .bytes) ≡ putByte m a b
+lent-put m a b = ap (λ (n : ℕ). lent n (putByte m a b .bytes)) (sym (put-base m a b))
+
 -- a written byte, if there is one
 abbrev pub over : ℕ → Content → Content
 over v Outside = Outside
 over v (Value x) = Value v
-
--- inside the map an address has its place in the list
-place : (m : Memory) (a : ℕ) → inside m a ≡ true → (m .base ≤ a) × (a - m .base < length (m .bytes))
-unfolding inside
-place m a h = (
-  leb-true (m .base) a (and-left (leb (m .base) a) (ltb (a - m .base) (length (m .bytes))) h),
-  ltb-true (a - m .base) (length (m .bytes)) (and-right (leb (m .base) a) (ltb (a - m .base) (length (m .bytes))) h),
-)
 
 pub put-in : (m : Memory) (a v : ℕ) → inside m a ≡ true → putByte m a v ≡ lent (m .base) (set (m .bytes) (a - m .base) v)
 unfolding putByte
@@ -108,7 +124,7 @@ put-here m a v =
     (λ (h : inside m a ≡ true).
     rw (byte-inside m a h)
     (byte-inside (putByte m a v) a (inside-same (putByte m a v) m (put-map m a v) a ∙ h)
-    ∙ rw (put-in m a v h) (ap Value (getD-set-same (m .bytes) (a - m .base) v 0 (place m a h .1)))))
+    ∙ rw (put-in m a v h) (ap Value (getD-set-same (m .bytes) (a - m .base) v 0 (omega (arith, inside-bounds m a h))))))
     (λ (h : inside m a ≡ false). rw (put-out m a v h, byte-outside m a h))
     (bool-is (inside m a))
 
@@ -118,7 +134,7 @@ put-other m a v b ne =
     (λ (h : inside m a ≡ true).
     ⊎-elim
     (λ (g : inside m b ≡ true).
-    let off : b - m .base ≢ a - m .base = λ e. ne (omega (arith, place m a h .0, place m b g .0)) in
+    let off : b - m .base ≢ a - m .base = λ e. ne (omega (arith, inside-bounds m a h .0, inside-bounds m b g .0)) in
     byte-inside (putByte m a v) b (inside-same (putByte m a v) m (put-map m a v) b ∙ g)
     ∙ rw (put-in m a v h) (ap Value (getD-set-other (m .bytes) (a - m .base) (b - m .base) v 0 off))
     ∙ sym (byte-inside m b g))
@@ -140,8 +156,8 @@ put-both m m′ a v b h = by-place (ℕ-discrete b a)
 
 pub write-map : (m : Memory) (l bs : List ℕ) → SameMap (putAt m l bs) m
 unfolding putAt
-write-map m [] bs = record { base = refl; size = refl }
-write-map m (a ∷ l) [] = record { base = refl; size = refl }
+write-map m [] bs = same-map m
+write-map m (a ∷ l) [] = same-map m
 write-map m (a ∷ l) (b ∷ bs) =
     let r = write-map (putByte m a b) l bs in
     record { base = r .base ∙ put-base m a b; size = r .size ∙ put-length m a b }

@@ -2,19 +2,23 @@
 --
 --   walk-reads, page-reads    == at most two words are read for a page
 --   allowed-low               == an allowed page lies below the reserved addresses
-use Prim.Native.Nat.{ℕ, _+_, _*_, _/_, _%_, _^_, _≤_, _<_}
-use mathlib.Core.Path.{_≡_, refl, sym, ap, _∙_}
-use mathlib.Core.Bool.{Bool, true, false, cond}
-use lib.Dec.{lit≤, ltb}
-use lib.ListN.{getD}
-use borrow.Author.Tests.{ltb-true}
+--   permits-bits              == an entry of a low frame permits what its bits say
+use Prim.Native.Nat.{ℕ, _/_, _≤_, _<_}
+use mathlib.Core.Path.{_≡_}
+use mathlib.Core.Bool.{_&&_, and-true}
+use native.Mathlib.Omega.{arith}
+use lib.Dec.{lit≤}
+use borrow.Author.Tests.{ltb-true, lt-ltb}
+use Rattle.common.specs.Bits.{bitSet}
 use Rattle.common.specs.Cases.{absurd-eq, cond-holds, cond-case}
 use Rattle.memory.specs.Memory.{Memory, readAt, wordSpots}
 use Rattle.memory.specs.declared.Content.{Content}
 use Rattle.memory.specs.declared.Content.the-variants.{Value, Outside}
 use Rattle.mmu.specs.Tlb.{firstMatch}
 use Rattle.mmu.specs.Walk.{tableOk, leafOk, spot1, spot2, walkLeaf, walkTable, walkOf}
-use Rattle.mmu.specs.Check.{pageAddr, belowReserved, faulted, byWalk, bySlot, checkWith, checkPage}
+use Rattle.mmu.specs.Exception.{accessBit}
+use Rattle.mmu.specs.Check.{pageAddr, belowReserved, permits, byWalk, bySlot, checkWith, checkPage}
+use Rattle.mmu.specs.declared.tlb.TlbEntry.{TlbEntry}
 use Rattle.mmu.specs.declared.tlb.Slot.{Slot}
 use Rattle.mmu.specs.declared.tlb.Slot.the-variants.{At, Nothing}
 use Rattle.mmu.specs.declared.vm.Vm.{Vm}
@@ -22,8 +26,7 @@ use Rattle.mmu.specs.declared.walk.Walked.{Walked}
 use Rattle.mmu.specs.declared.walk.Walked.the-variants as walked
 use Rattle.mmu.specs.declared.walk.WalkAnswer.{WalkAnswer}
 use Rattle.mmu.specs.declared.exception.Access.{Access}
-use Rattle.mmu.specs.declared.check.Verdict.{Verdict}
-use Rattle.mmu.specs.declared.check.Verdict.the-variants.{Allowed, Denied}
+use Rattle.mmu.specs.declared.check.Verdict.the-variants.{Allowed}
 use Rattle.mmu.specs.declared.check.Checked.{Checked}
 
 leaf-reads : (va : ℕ) (w : Content) → walkLeaf va w .reads ≤ 2
@@ -65,3 +68,7 @@ allowed-low m vm k va =
     cond-case (λ (c : Checked). c .verdict ≡ Allowed → pageAddr (va / 4096) < 0xFFFF_0000) (belowReserved (pageAddr (va / 4096)))
     (λ t p. ltb-true (pageAddr (va / 4096)) 0xFFFF_0000 t)
     (λ t p. absurd-eq (cc))
+
+pub permits-bits : (e : TlbEntry) (k : Access) → e .ppn < 0xFFFF0 → permits e k ≡ (bitSet (e .flags) 4 && bitSet (e .flags) (accessBit k))
+unfolding permits
+permits-bits e k h = rw (lt-ltb (pageAddr (e .ppn)) 0xFFFF_0000 (omega arith)) (and-true _)

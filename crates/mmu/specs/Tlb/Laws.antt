@@ -3,16 +3,18 @@
 --   found-bound        == a slot that the search finds is within the list
 --   found-matches      == the entry that stands there matches
 --   found-after-fill   == a page that was missing is found where its entry was filled
+--   markDropped t e    == e without its valid mark, where t says so
+--   dropped-at         == an entry after its page, or another, was dropped: the valid mark alone may change
 use Prim.Native.Nat.{ℕ, zero, suc, _+_, _-_, _≤_, _<_}
 use mathlib.Core.Path.{_≡_, refl, sym, ap, _∙_}
-use mathlib.Core.Bool.{Bool, true, false, cond, _&&_}
-use mathlib.Core.List.{List, [], _∷_}
+use mathlib.Core.Bool.{Bool, true, false, cond, _&&_, not}
+use mathlib.Core.List.{List, [], _∷_, map}
 use native.Mathlib.Omega.{arith}
 use lib.Dec.{eqb}
-use lib.ListN.{length, getD, set}
+use lib.ListN.{length, getD, set, List·getD-map}
 use borrow.Author.Tests.{eqb-true}
 use Rattle.common.specs.Cases.{absurd-eq, and-left, and-right}
-use Rattle.mmu.specs.Tlb.{noEntry, matches, firstMatch}
+use Rattle.mmu.specs.Tlb.{noEntry, matches, firstMatch, unmarked, dropped, droppedPage}
 use Rattle.mmu.specs.declared.tlb.TlbEntry.{TlbEntry}
 use Rattle.mmu.specs.declared.tlb.Slot.{Slot}
 use Rattle.mmu.specs.declared.tlb.Slot.the-variants.{At, Nothing}
@@ -67,3 +69,30 @@ filled-from v k (x ∷ l) (suc i) e p q h = by-match (matches v x) refl p (λ r.
 
 pub found-after-fill : (v : ℕ) (l : List TlbEntry) (i : ℕ) (e : TlbEntry) → firstMatch v 0 l ≡ Nothing → matches v e ≡ true → i < length l → firstMatch v 0 (set l i e) ≡ At i
 found-after-fill v l i e p q h = filled-from v 0 l i e p q h ∙ ap At (omega arith)
+
+-- ---- dropping a page
+
+abbrev pub markDropped : Bool → TlbEntry → TlbEntry
+markDropped this e = record { valid = e .valid && not this; vpn = e .vpn; ppn = e .ppn; flags = e .flags }
+
+dropped-is : (vpn : ℕ) (e : TlbEntry) → dropped vpn e ≡ markDropped (eqb (e .vpn) vpn) e
+unfolding dropped
+dropped-is vpn e = by-page (e .valid) (eqb (e .vpn) vpn)
+  where
+    by-page : (v t : Bool) → _≡_ {A = TlbEntry} (cond t (record { valid = false; vpn = e .vpn; ppn = e .ppn; flags = e .flags }) (record { valid = v; vpn = e .vpn; ppn = e .ppn; flags = e .flags }))
+        (record { valid = v && not t; vpn = e .vpn; ppn = e .ppn; flags = e .flags })
+    by-page true true = refl
+    by-page false true = refl
+    by-page true false = refl
+    by-page false false = refl
+
+-- an entry of zeros stays one
+nothing-dropped : (t : Bool) → cond t (unmarked noEntry) noEntry ≡ noEntry
+nothing-dropped true = refl
+nothing-dropped false = refl
+
+pub dropped-at : (vpn : ℕ) (l : List TlbEntry) (i : ℕ) → getD (droppedPage vpn l) i noEntry ≡ markDropped (eqb (getD l i noEntry .vpn) vpn) (getD l i noEntry)
+unfolding droppedPage dropped
+dropped-at vpn l i =
+    ap (getD (map (dropped vpn) l) i) (sym (nothing-dropped (eqb 0 vpn))) ∙ List·getD-map (dropped vpn) l i noEntry
+    ∙ dropped-is vpn (getD l i noEntry)

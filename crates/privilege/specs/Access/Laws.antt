@@ -21,7 +21,7 @@ use Rattle.mmu.specs.declared.check.Verdict.{Verdict}
 use Rattle.mmu.specs.declared.check.Verdict.the-variants as verdict
 use Rattle.mmu.specs.declared.exception.Access.{Access}
 use Rattle.privilege.specs.Access.{legalSize, mapGood, translatingOf, allowsOf, permissionOf, accessAnswered, fromPages, byRegions, checkLegal, checkAccess}
-use Rattle.privilege.specs.FromMmu.{VmKept, kept-same, pages-keep, SameWalks, pages-same}
+use Rattle.mmu.specs.Check.Pages.{VmKept, kept-same, pages-keep, SameWalks, pages-same}
 use Rattle.privilege.specs.State.{withVm}
 use Rattle.privilege.specs.declared.check.Permission.{Permission}
 use Rattle.privilege.specs.declared.check.Permission.the-variants.{Allowed, Denied, Refused}

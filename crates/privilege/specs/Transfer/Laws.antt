@@ -23,7 +23,7 @@ use Rattle.common.specs.Lists.{Each}
 use Rattle.common.specs.declared.Refusal.{Refusal}
 use Rattle.common.specs.declared.Refusal.the-variants.{Size, Map}
 use Rattle.memory.specs.Memory.{Memory, byteAt, wordSpots, putAt, allInside}
-use Rattle.memory.specs.Memory.Laws.{SameMap, read-same, all-inside-same, write-map, write-both, write-other}
+use Rattle.memory.specs.Memory.Laws.{SameMap, same-map, read-same, all-inside-same, write-map, write-both, write-other}
 use Rattle.mmu.specs.declared.vm.Vm.{Vm}
 use Rattle.privilege.specs.Access.{dataSize, mapGood, translatingOf}
 use Rattle.privilege.specs.Access.Laws.{good-same}
@@ -90,9 +90,6 @@ module _ (m m′ : Memory) (n : ℕ) (l : List ℕ) (e : SameMap m m′) where
   pub store-same : storeAt m n l ≡ storeAt m′ n l
   unfolding storeAt
   store-same = rw (good-same m m′ e, all-inside-same m m′ e l)
-
-same-map : (m : Memory) → SameMap m m
-same-map m = record { base = refl; size = refl }
 
 -- what holds of the written memory, and of the memory as it was, holds of the memory after a store
 after : (P : Memory → Type 0) (m : Memory) (n : ℕ) (l : List ℕ) (v : ℕ) → P (putAt m l (bytesOf n v)) → P m → P (memoryAt m n l v)

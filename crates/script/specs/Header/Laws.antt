@@ -4,12 +4,14 @@
 --                     of the image lies within the script
 --   good-sound     == of a good script the header is sound
 --   image-is       == then the copied image is the script's image section as it stands
+--   image-fits, memory-length == the image fits the runner's memory, and the front of that is as long as the image
 use Prim.Native.Nat.{ℕ, zero, suc, _+_, _%_, _≤_, _<_}
-use mathlib.Core.Path.{_≡_, refl}
+use mathlib.Core.Path.{_≡_, refl, sym, _∙_}
 use mathlib.Core.Bool.{Bool, true, false, cond, _&&_}
 use mathlib.Core.List.{List}
 use native.Mathlib.Omega.{arith}
-use lib.ListN.{length, take, drop}
+use borrow.Table.Elements.{length-take-le}
+use lib.ListN.{length, take, drop, replicate, length-replicate}
 use borrow.Author.Tests.{leb-true, eqb-true, ne-eqb}
 use Rattle.common.specs.Cases.{absurd-eq}
 use Rattle.common.specs.declared.Refusal.the-variants as refusal
@@ -19,6 +21,7 @@ use Rattle.script.specs.Image.{bytesFrom}
 use Rattle.script.specs.Image.Laws.{bytes-none, bytes-inside}
 use Rattle.script.specs.declared.header.Header.{Header}
 use Rattle.script.specs.declared.header.Section.{Section}
+use Rattle.script.specs.declared.header.Script.{Script}
 use Rattle.script.specs.declared.header.Script.the-variants.{Good, Refused}
 
 pub record Sound (s : List ℕ) (h : Header) : Type 0 where
@@ -100,3 +103,11 @@ image-is s h t = by (h .image) (t .image-inside)
     by : (n : ℕ) → ((k : ℕ) → k < n → h .«image_at» + k < length s) → bytesFrom s (h .«image_at») n ≡ take n (drop (h .«image_at») s)
     by zero g = bytes-none s (h .«image_at»)
     by (suc n) g = bytes-inside s (h .«image_at») (suc n) (omega (arith, g n (omega arith)))
+
+-- x is what `header_of` answered
+module _ (s : List ℕ) (h : Header) (x : Script) (e : x ≡ scriptOf s) (g : x ≡ Good h) where
+  pub image-fits : h .image ≤ 32768
+  image-fits = good-sound s h (sym e ∙ g) .small-image
+
+  pub memory-length : length {A = ℕ} (take (h .image) (replicate 32768 0)) ≡ h .image
+  memory-length = length-take-le (h .image) (replicate 32768 0) (rw (length-replicate {A = ℕ} 32768 0) image-fits)

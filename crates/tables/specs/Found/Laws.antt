@@ -22,7 +22,7 @@ use lib.ListN.{length, getD, length-append, List·getD-append}
 use lib.Seq.{getD-append-add}
 use borrow.Author.Tests.{leb-true, eq-eqb, ne-eqb, le-leb}
 use Rattle.common.specs.Bits.{bitSet}
-use Rattle.common.specs.Cases.{absurd-eq, cond-holds, and-left, and-right}
+use Rattle.common.specs.Cases.{absurd-eq, cond-holds, and-left, and-right, lt-or-ge}
 use Rattle.common.specs.Lists.{Each, each-getD}
 use Rattle.memory.specs.Memory.{byteAt, readAt, wordSpots}
 use Rattle.memory.specs.declared.Content.the-variants.{Value}
@@ -35,7 +35,8 @@ use Rattle.mmu.specs.Exception.{accessBit}
 use Rattle.mmu.specs.Opened.{TableByte, level1, level2, resident, leaf, frameOf, Opened, opened}
 use Rattle.mmu.specs.declared.exception.Access.{Access}
 use Rattle.mmu.specs.declared.vm.Vm.{Vm}
-use Rattle.tables.specs.FromMmu.{lt-or-ge, table-followed, none-followed, walk-two, walk-one, leaf-found, no-leaf, entry-of, permits-bits}
+use Rattle.mmu.specs.Walk.Laws.{table-followed, none-followed, walk-two, walk-one, leaf-found, no-leaf, entry-of}
+use Rattle.mmu.specs.Check.Laws.{permits-bits}
 use Rattle.tables.specs.declared.mapping.Mapping.{Mapping}
 use Rattle.tables.specs.declared.write.Tables.the-variants.{Written}
 use Rattle.tables.specs.Mapping.{leafOf, leafAt, goodMapping, allGood, ascendingFrom}

@@ -18,11 +18,10 @@ use lib.Dec.{leb, eqb}
 use lib.ListN.{length, getD, length-append, List·getD-append}
 use lib.Seq.{getD-append-add}
 use borrow.Author.Tests.{leb-true, eqb-true, eqb-false, le-leb, eq-eqb, ne-eqb}
-use Rattle.common.specs.Cases.{absurd-eq, cond-holds, cond-case, and-left, and-right}
+use Rattle.common.specs.Cases.{absurd-eq, cond-holds, cond-case, and-left, and-right, lt-or-ge}
 use Rattle.common.specs.Lists.{Each}
 use Rattle.memory.specs.Memory.{Memory, goodMap}
-use Rattle.tables.specs.FromMemory.{map-end}
-use Rattle.tables.specs.FromMmu.{lt-or-ge}
+use Rattle.memory.specs.Memory.Laws.{good-map-end}
 use Rattle.tables.specs.declared.mapping.Mapping.{Mapping}
 use Rattle.tables.specs.declared.refusal.Refusal.the-variants.{Map, Order, Leaf, Run, Frames}
 use Rattle.tables.specs.declared.write.Tables.the-variants.{Written, Refused}
@@ -85,7 +84,7 @@ module _ (c : Call) (a : Accepted c) where
   frames-in = omega (arith, run-in .1, a .enough)
 
   pub frames-low : c .first + 4096 * framesFor (c .vpns) ≤ 0xFFFF_0000
-  frames-low = omega (arith, frames-in, map-end (c .memory .base) (length (c .memory .bytes)) (a .map))
+  frames-low = omega (arith, frames-in, good-map-end (c .memory .base) (length (c .memory .bytes)) (a .map))
 
 -- ---- the words of the image
 

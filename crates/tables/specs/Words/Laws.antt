@@ -16,13 +16,13 @@ use mathlib.Core.List.{List, [], _∷_, _++_}
 use mathlib.Core.Logic.{_⊎_, inl, inr, ⊎-elim}
 use native.Mathlib.Omega.{arith}
 use lib.ListN.{length, getD}
-use Rattle.common.specs.Bytes.{bytesOf, bigEndian}
+use Rattle.common.specs.Bytes.{bytesOf, bigEndian, bytes-four}
 use Rattle.common.specs.Lists.{Each}
+use Rattle.common.specs.Cases.{lt-or-ge}
 use Rattle.memory.specs.Memory.{Memory, lent, inside, byteAt, readAt, wordSpots, putByte}
-use Rattle.memory.specs.Memory.Laws.{SameMap, inside-same, read-same, byte-inside, over, put-map, put-here, put-other, write-map, write-other}
+use Rattle.memory.specs.Memory.Laws.{SameMap, inside-same, read-same, byte-inside, over, put-map, put-here, put-other, write-map, write-other, inside-map, lent-put}
 use Rattle.memory.specs.declared.Content.the-variants.{Value}
-use Rattle.tables.specs.FromMmu.{lt-or-ge}
-use Rattle.tables.specs.FromMemory.{inside-map, lent-put, bytes-four, put-four, read-four}
+use Rattle.memory.specs.Memory.Bytewise.{put-four, read-four}
 use Rattle.tables.specs.Words.{putWord, putWords, wordsOf}
 
 -- ---- one word

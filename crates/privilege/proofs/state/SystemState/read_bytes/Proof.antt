@@ -6,7 +6,7 @@ use native.Mathlib.Omega.{arith}
 use denote.Ref.{now}
 use borrow.Author.Needs.{needs}
 use Rattle.memory.specs.Memory.{lent, readAt}
-use Rattle.privilege.specs.FromMemory.{readOn, read-whole, byte-small}
+use Rattle.memory.specs.Memory.Bytewise.{readOn, read-whole, byte-small}
 use Rattle.privilege.specs.Transfer.{spots}
 use Rattle.privilege.proofs.Transfers.{next-small, next-fits, all-read, byte-read, byte-missing}
 use Rattle.privilege.proofs.state.SystemState.read_bytes.Statement.{statement}

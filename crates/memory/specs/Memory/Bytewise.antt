@@ -1,19 +1,21 @@
--- Laws of the memory's definitions, by which a loop reads or writes byte after byte. Assumes nothing.
+-- Lent memory byte by byte, as a loop reads or writes it, and the four bytes of a word. Assumes nothing.
 --
 --   readOn m high l       == the number that starts with `high` and goes on with the bytes at l
 --   read-whole, read-none, read-value, read-outside   == a read, byte by byte
 --   byte-small            == a byte of a list of bytes is below 256
 --   put-none, put-next    == a write, byte by byte
 --   inside-none, inside-next == that every address is inside, one by one
+--   put-four, read-four   == a word's four bytes, written and read
 use Prim.Native.Nat.{ℕ, _+_, _-_, _*_, _<_}
 use mathlib.Core.Path.{_≡_, refl}
 use mathlib.Core.Bool.{true, _&&_}
 use mathlib.Core.List.{List, [], _∷_, map}
 use lib.ListN.{getD}
+use Rattle.common.specs.Bytes.{bigEndian}
 use Rattle.common.specs.Cases.{cond-case, absurd-eq}
-use Rattle.memory.specs.Memory.{Memory, inside, byteAt, gathered, readAt, putByte, putAt, allInside}
+use Rattle.memory.specs.Memory.{Memory, inside, byteAt, gathered, readAt, wordSpots, putByte, putAt, allInside}
 use Rattle.memory.specs.declared.Content.{Content}
 use Rattle.memory.specs.declared.Content.the-variants.{Value, Outside}
 
 abbrev pub readOn : Memory → ℕ → List ℕ → Content
 readOn m high l = gathered high (map (byteAt m) l)
@@ -57,3 +59,15 @@ inside-none m = refl
 pub inside-next : (m : Memory) (a : ℕ) (l : List ℕ) → allInside m (a ∷ l) ≡ (inside m a && allInside m l)
 unfolding allInside
 inside-next m a l = refl
+
+-- ---- a word
+
+pub put-four : (m : Memory) (a b₀ b₁ b₂ b₃ : ℕ)
+    → putAt m (wordSpots a) (b₀ ∷ b₁ ∷ b₂ ∷ b₃ ∷ []) ≡ putByte (putByte (putByte (putByte m a b₀) (a + 1) b₁) (a + 2) b₂) (a + 3) b₃
+unfolding putAt
+put-four m a b₀ b₁ b₂ b₃ = refl
+
+pub read-four : (m : Memory) (a b₀ b₁ b₂ b₃ : ℕ) → byteAt m a ≡ Value b₀ → byteAt m (a + 1) ≡ Value b₁ → byteAt m (a + 2) ≡ Value b₂ → byteAt m (a + 3) ≡ Value b₃
+    → readAt m (wordSpots a) ≡ Value (bigEndian (b₀ ∷ b₁ ∷ b₂ ∷ b₃ ∷ []))
+unfolding readAt gathered
+read-four m a b₀ b₁ b₂ b₃ p q r s = rw (p, q, r, s)

@@ -1,38 +1,22 @@
--- What the tables need of the MMU's definitions. Assumes nothing.
+-- The laws of the walk, by the words that it reads. Assumes nothing.
 --
 --   leaf-by-bits, leaf-alone      == a walk looks at a leaf's bits and not at its frame
 --   table-followed    == a frame's address and V is a word that the walk follows; none-followed: 0 is none
 --   walk-two, walk-one            == a walk by the words that it reads
 --   leaf-found, no-leaf           == what the second word leads to
 --   entry-of          == the entry of a leaf, from its frame and bits
---   permits-bits      == an entry of a low frame permits what its bits say
---   no-entries        == a flush leaves no valid entry
-use Prim.Native.Nat.{ℕ, _+_, _*_, _/_, _%_, _^_, _≤_, _<_}
+use Prim.Native.Nat.{ℕ, _+_, _*_, _/_, _%_, _^_, _<_}
 use mathlib.Core.Path.{_≡_, refl, ap, _∙_}
-use mathlib.Core.Bool.{true, false, not, _&&_, _||_, and-true}
-use mathlib.Core.Logic.{_⊎_, inl, inr, ⊎-elim}
+use mathlib.Core.Bool.{true, false, not, _&&_, _||_}
 use native.Mathlib.Nat.{div-one}
 use native.Mathlib.Omega.{arith}
-use lib.Dec.{ltb, eqb}
-use lib.ListN.{getD, replicate, getD-replicate, List·getD-eq-default}
-use borrow.Author.Tests.{ltb-true, ltb-false, lt-ltb}
+use lib.Dec.{eqb}
 use Rattle.common.specs.Bits.{bitSet}
-use Rattle.common.specs.Cases.{bool-is}
 use Rattle.memory.specs.Memory.{Memory, readAt, wordSpots}
 use Rattle.memory.specs.declared.Content.{Content}
 use Rattle.memory.specs.declared.Content.the-variants.{Value}
-use Rattle.mmu.specs.Check.{pageAddr, permits}
-use Rattle.mmu.specs.Exception.{accessBit}
-use Rattle.mmu.specs.Tlb.{noEntry, noEntries}
-use Rattle.mmu.specs.Vm.{flushed}
-use Rattle.mmu.specs.declared.vm.Vm.{Vm}
 use Rattle.mmu.specs.Walk.{tableOk, leafOk, leafEntry, spot1, spot2, walkLeaf, walkTable, walkOf}
-use Rattle.mmu.specs.declared.exception.Access.{Access}
-use Rattle.mmu.specs.declared.tlb.TlbEntry.{TlbEntry}
 use Rattle.mmu.specs.declared.walk.Walked.the-variants.{Leaf, Missing}
-
-pub lt-or-ge : (a b : ℕ) → (a < b) ⊎ (b ≤ a)
-lt-or-ge a b = ⊎-elim (λ (t : ltb a b ≡ true). inl (ltb-true a b t)) (λ (t : ltb a b ≡ false). inr (ltb-false a b t)) (bool-is (ltb a b))
 
 -- the word 4096 q + 2 c + 1, where c has four bits
 leaf-word : (q c : ℕ) → c < 16 → leafOk (4096 * q + 2 * c + 1) ≡ (not (eqb (c % 8) 0) && (not (eqb (c / 2 % 2) 1) || eqb (c % 2) 1))
@@ -96,21 +80,11 @@ no-leaf va = refl
 -- ---- an entry by its leaf
 
 pub entry-of : (va p b : ℕ) → p < 0xFFFF0 → b % 2 ≡ 0 → b < 32
-    → leafEntry va (pageAddr p + b + 1) ≡ record { valid = true; vpn = va / 4096; ppn = p; flags = b }
+    → leafEntry va (p * 4096 % 2 ^ 32 + b + 1) ≡ record { valid = true; vpn = va / 4096; ppn = p; flags = b }
 unfolding leafEntry
 entry-of va p b h g k =
-    let frame : (pageAddr p + b + 1) / 4096 ≡ p = omega arith in
-    let half : (pageAddr p + b + 1) / 2 ≡ 2048 * p + b / 2 = omega arith in
+    let frame : (p * 4096 % 2 ^ 32 + b + 1) / 4096 ≡ p = omega arith in
+    let half : (p * 4096 % 2 ^ 32 + b + 1) / 2 ≡ 2048 * p + b / 2 = omega arith in
     let low : (2048 * p + b / 2) % 16 ≡ b / 2 = omega arith in
     let bits : b / 2 * 2 ≡ b = omega arith in
     rw (frame, half, low, bits)
-
-pub permits-bits : (e : TlbEntry) (k : Access) → e .ppn < 0xFFFF0 → permits e k ≡ (bitSet (e .flags) 4 && bitSet (e .flags) (accessBit k))
-unfolding permits
-permits-bits e k h = rw (lt-ltb (pageAddr (e .ppn)) 0xFFFF_0000 (omega arith)) (and-true _)
-
-pub no-entries : (vm : Vm) (i : ℕ) → getD (flushed vm .tlb) i noEntry .valid ≡ false
-unfolding flushed noEntries
-no-entries vm i =
-    ⊎-elim (λ h. ap (λ (e : TlbEntry). e .valid) (getD-replicate 16 i noEntry noEntry h))
-    (λ h. ap (λ (e : TlbEntry). e .valid) (List·getD-eq-default (replicate 16 noEntry) noEntry {n = i} h)) (lt-or-ge i 16)

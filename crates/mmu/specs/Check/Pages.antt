@@ -1,37 +1,34 @@
--- Laws of the MMU's definitions that the access check and the registers need. Assumes nothing.
+-- The laws of the check of several pages. Assumes nothing.
 --
 --   VmKept vm vm′     == the same VCTL, PTBR and VFAULT, and as many TLB slots
 --   pages-keep        == the check of pages leaves these, whatever it answers
 --   pages-reads       == it reads at most two words for each page
 --   pages-same        == it depends on memory only through the walks of its pages
---   flushed-is        == a flush keeps the registers and zeroes the TLB and next_victim
---   invalidated-else, invalidated-entry == TLBINV changes the TLB alone, and there the valid marks of the page's entries alone
-use Prim.Native.Nat.{ℕ, zero, suc, _+_, _*_, _/_, _≤_}
-use mathlib.Core.Path.{_≡_, refl, sym, ap, _∙_}
-use mathlib.Core.Bool.{Bool, true, false, cond}
-use mathlib.Core.List.{List, [], _∷_, map}
+use Prim.Native.Nat.{ℕ, _+_, _*_, _/_, _≤_}
+use mathlib.Core.Path.{_≡_, refl, ap, _∙_}
+use mathlib.Core.List.{List, [], _∷_}
 use native.Mathlib.Omega.{arith}
-use lib.Dec.{eqb, lit≤}
-use lib.ListN.{length, getD, length-set}
+use lib.Dec.{lit≤}
+use lib.ListN.{length, length-set}
 use Rattle.common.specs.Cases.{cond-holds}
 use Rattle.common.specs.Lists.{Each}
 use Rattle.memory.specs.Memory.{Memory}
 use Rattle.mmu.specs.Check.{pageAddr, belowReserved, byWalk, bySlot, checkWith, checkPage, afterPage, checkEach}
 use Rattle.mmu.specs.Check.Laws.{page-reads}
-use Rattle.mmu.specs.Tlb.{noEntry, noEntries, firstMatch, dropped, droppedPage}
-use Rattle.mmu.specs.Vm.{withTlb, victim, filled, flushed, invalidated}
+use Rattle.mmu.specs.Tlb.{firstMatch}
+use Rattle.mmu.specs.Vm.{victim, filled}
 use Rattle.mmu.specs.Walk.{walkOf}
 use Rattle.mmu.specs.declared.check.Checked.{Checked}
 use Rattle.mmu.specs.declared.check.Verdict.{Verdict}
 use Rattle.mmu.specs.declared.check.Verdict.the-variants.{Allowed, Denied}
 use Rattle.mmu.specs.declared.exception.Access.{Access}
 use Rattle.mmu.specs.declared.tlb.Slot.{Slot}
 use Rattle.mmu.specs.declared.tlb.Slot.the-variants.{At, Nothing}
 use Rattle.mmu.specs.declared.tlb.TlbEntry.{TlbEntry}
 use Rattle.mmu.specs.declared.vm.Vm.{Vm}
 use Rattle.mmu.specs.declared.walk.Walked.{Walked}
 use Rattle.mmu.specs.declared.walk.Walked.the-variants as walked
 use Rattle.mmu.specs.declared.walk.WalkAnswer.{WalkAnswer}
 
 pub record VmKept (vm vm′ : Vm) : Type 0 where
   pub enabled : vm′ .enabled ≡ vm .enabled
@@ -109,42 +106,3 @@ pages-same m m′ k vm (va ∷ l) h =
     let rest = pages-same m m′ k (page .vm) l (rw (page-keeps m vm k va .ptbr) (h .1)) in
     ap (λ (c : Checked). afterPage (page .verdict) page c) rest
     ∙ ap (λ (c : Checked). afterPage (c .verdict) c (checkEach m′ k (c .vm) l)) (page-same m m′ vm k va (h .0))
-
--- ---- flush and TLBINV
-
-pub flushed-is : (vm : Vm) → flushed vm ≡ withTlb vm noEntries 0
-unfolding flushed
-flushed-is vm = refl
-
-pub invalidated-else : (vm : Vm) (va : ℕ) → invalidated vm va ≡ withTlb vm (invalidated vm va .tlb) (vm .«next_victim»)
-unfolding invalidated
-invalidated-else vm va = refl
-
--- an entry without its valid mark, if it is the page's
-abbrev pub markDropped : Bool → TlbEntry → TlbEntry
-markDropped this e = record { valid = cond this false (e .valid); vpn = e .vpn; ppn = e .ppn; flags = e .flags }
-
-dropped-is : (vpn : ℕ) (e : TlbEntry) → dropped vpn e ≡ markDropped (eqb (e .vpn) vpn) e
-unfolding dropped
-dropped-is vpn e = by-page (eqb (e .vpn) vpn)
-  where
-    by-page : (b : Bool) → cond b (markDropped true e) e ≡ markDropped b e
-    by-page true = refl
-    by-page false = refl
-
-dropped-none : (vpn : ℕ) → dropped vpn noEntry ≡ noEntry
-dropped-none vpn = dropped-is vpn noEntry ∙ by-page (eqb 0 vpn)
-  where
-    by-page : (b : Bool) → markDropped b noEntry ≡ noEntry
-    by-page true = refl
-    by-page false = refl
-
-map-getD : (vpn : ℕ) (l : List TlbEntry) (i : ℕ) → getD (map (dropped vpn) l) i noEntry ≡ dropped vpn (getD l i noEntry)
-map-getD vpn [] i = sym (dropped-none vpn)
-map-getD vpn (e ∷ l) zero = refl
-map-getD vpn (e ∷ l) (suc i) = map-getD vpn l i
-
-pub invalidated-entry : (vm : Vm) (va i : ℕ)
-    → getD (invalidated vm va .tlb) i noEntry ≡ markDropped (eqb (getD (vm .tlb) i noEntry .vpn) (va / 4096)) (getD (vm .tlb) i noEntry)
-unfolding invalidated droppedPage
-invalidated-entry vm va i = map-getD (va / 4096) (vm .tlb) i ∙ dropped-is (va / 4096) (getD (vm .tlb) i noEntry)
