@@ -1,6 +1,7 @@
 -- Laws of lists that the kit's libraries do not have.
 --
 --   mapTo f n l        == the first n elements mapped, the others as they were: what a loop that maps an array in place has done
+--   map-to-one         == a list whose every element is mapped to x is as many x
 --   Each P l           == every number of the list has the property
 --   mapped-length      == the length of an array that is a struct's field: owning the struct tells it of the mapped list
 use Prim.Native.Nat.{ℕ, zero, suc, _+_, _≤_, _<_}
@@ -9,7 +10,7 @@ use mathlib.Core.List.{List, [], _∷_, map}
 use native.Mathlib.Nat.{le-of-suc-le-suc, not-suc-le-zero}
 use native.Mathlib.Numerals.{add-one}
 use native.Mathlib.Omega.{arith}
-use lib.ListN.{length, getD, set, length-map}
+use lib.ListN.{length, getD, set, replicate, length-map}
 
 unfoldable pub mapTo : {A : Type 0} → (A → A) → ℕ → List A → List A
 mapTo f zero l = l
@@ -47,6 +48,10 @@ module _ {A : Type 0} (f : A → A) where
 
   pub mapTo-done : (l now : List A) (n : ℕ) → length l ≤ n → now ≡ mapTo f n l → now ≡ map f l
   mapTo-done l now n h e = e ∙ mapTo-all n l h
+
+pub map-to-one : {A : Type 0} (x : A) (l : List A) → map (λ (y : A). x) l ≡ replicate (length l) x
+map-to-one x [] = refl
+map-to-one x (y ∷ l) = ap (λ (t : List _). x ∷ t) (map-to-one x l)
 
 pub mapped-length : {A B : Type 0} (f : A → B) (l : List A) (n : ℕ) → length (map f l) ≡ n → length l ≡ n
 mapped-length f l n p = sym (length-map l f) ∙ p

@@ -82,6 +82,7 @@ privilege-settled = record {
   grants = record { coincide = answer };
   field = record { coincide = answer };
   with-field = record { coincide = answer };
+  write-field = record { coincide = answer };
   all-allowed = record { coincide = answer };
   region-field = record { coincide = answer };
   read-sr = record { coincide = answer };

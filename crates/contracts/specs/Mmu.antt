@@ -12,6 +12,7 @@ pub record Mmu : Type 0 where
   pub tlb-lookup : Settled mmu.tlb.lookup.ended mmu.tlb.lookup.Reads.Learnt
   pub tlb-fill : Settled mmu.tlb.fill.ended mmu.tlb.fill.Reads.Learnt
   pub tlb-invalidate : Settled mmu.tlb.invalidate.ended mmu.tlb.invalidate.Reads.Learnt
+  pub empty : Settled mmu.tlb.empty.ended mmu.tlb.empty.Reads.Learnt
   pub tlb-flush : Settled mmu.tlb.flush.ended mmu.tlb.flush.Reads.Learnt
   pub new : Settled mmu.vm.Vm.new.ended mmu.vm.Vm.new.Reads.Learnt
   pub vm-flush : Settled mmu.vm.Vm.flush.ended mmu.vm.Vm.flush.Reads.Learnt

@@ -12,6 +12,7 @@ pub record Privilege : Type 0 where
   pub grants : Settled privilege.region.Region.grants.ended privilege.region.Region.grants.Reads.Learnt
   pub field : Settled privilege.region.Region.field.ended privilege.region.Region.field.Reads.Learnt
   pub with-field : Settled privilege.region.Region.with_field.ended privilege.region.Region.with_field.Reads.Learnt
+  pub write-field : Settled privilege.region.write_field.ended privilege.region.write_field.Reads.Learnt
   pub all-allowed : Settled privilege.region.all_allowed.ended privilege.region.all_allowed.Reads.Learnt
   pub region-field : Settled privilege.registers.region_field.ended privilege.registers.region_field.Reads.Learnt
   pub read-sr : Settled privilege.state.SystemState.read_sr.ended privilege.state.SystemState.read_sr.Reads.Learnt

@@ -2,7 +2,7 @@
 ghost use mathlib.Core.Path.{_≡_};
 ghost use Prim.Native.Nat.{_%_};
 ghost use lib.ListN.{set};
-ghost use Rattle.mmu.specs.Tlb.{firstMatch, noEntries, dropped, droppedPage};
+ghost use Rattle.mmu.specs.Tlb.{firstMatch, noEntry, noEntries, dropped, droppedPage};
 
 pub const TLB_ENTRIES: usize = 16;
 
@@ -77,15 +77,31 @@ pub fn invalidate(tlb: [TlbEntry; 16], vpn: u32) -> [TlbEntry; 16]
     left
 }
 
-// Sixteen entries of zeros.
-pub fn flush() -> [TlbEntry; 16]
-    ensures { λ r. ⌜ r ≡ noEntries ⌝ }
+fn no_entry() -> TlbEntry
+    ensures { λ r. ⌜ r ≡ noEntry ⌝ }
 {
-    let entry = TlbEntry {
+    TlbEntry {
         valid: false,
         vpn: 0,
         ppn: 0,
         flags: 0,
-    };
-    [entry; 16]
+    }
+}
+
+// Sixteen entries of zeros.
+pub fn empty() -> [TlbEntry; 16]
+    ensures { λ r. ⌜ r ≡ noEntries ⌝ }
+{
+    [no_entry(); 16]
+}
+
+// Every entry becomes one of zeros.
+pub fn flush(tlb: [TlbEntry; 16]) -> [TlbEntry; 16]
+    ensures { λ r. ⌜ r ≡ noEntries ⌝ }
+{
+    let mut left = tlb;
+    for i in 0..16 {
+        left[i] = no_entry();
+    }
+    left
 }

@@ -21,7 +21,7 @@ impl Vm {
     pub fn new() -> Self
         ensures { λ r. ⌜ r ≡ newVm ⌝ }
     {
-        let tlb = tlb::flush();
+        let tlb = tlb::empty();
         Self {
             enabled: false,
             ptbr: 0,
@@ -34,8 +34,9 @@ impl Vm {
     pub fn flush(mut self) -> Self
         ensures { λ r. ⌜ r ≡ flushed self ⌝ }
     {
-        let empty = tlb::flush();
-        self.tlb = empty;
+        let old = self.tlb;
+        let left = tlb::flush(old);
+        self.tlb = left;
         self.next_victim = 0;
         self
     }

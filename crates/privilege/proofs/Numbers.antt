@@ -14,7 +14,7 @@ use Rattle.common.specs.Cases.{cond-case, absurd-eq, and-left, and-right}
 use Rattle.common.specs.declared.Refusal.the-variants as refusal
 use Rattle.mmu.specs.Vm.{flushed, invalidated}
 use Rattle.mmu.specs.declared.vm.Vm.{Vm}
-use Rattle.privilege.specs.Region.{fieldOf, withField}
+use Rattle.privilege.specs.Region.{fieldOf, fieldWritten}
 use Rattle.privilege.specs.Registers.{regionField, userRead, userWritten, regionRead, regionWritten, written, srRead, srWritten, vmEnabled, vmPtbr, vmFault}
 use Rattle.privilege.specs.State.{noRegion, bitIf, withRegions, withOther, withVm}
 use Rattle.privilege.specs.declared.region.Region.{Region}
@@ -65,9 +65,9 @@ module _ (s : SystemState) (sr : ℕ) (p : RegionField) (is : p ≡ regionField 
     pub write-unknown : p ≡ Nothing → record { sys = s; reg = reg; answer = answer.Refused refusal.Register } ≡ regionWritten s reg v (regionField sr)
     write-unknown e = rw (← is, e)
 
-    pub write-field : (n f : ℕ) (g : Region) (r : SrWritten) → p ≡ At n f → g ≡ withField (getD (s .regions) n noRegion) f v
-        → r ≡ written (withRegions s (set (s .regions) n g)) reg → r ≡ regionWritten s reg v (regionField sr)
-    write-field n f g r e q w = w ∙ rw (← is, e, q)
+    pub write-field : (n f : ℕ) (l : List Region) (r : SrWritten) → p ≡ At n f → l ≡ fieldWritten (s .regions) n f v
+        → r ≡ written (withRegions s l) reg → r ≡ regionWritten s reg v (regionField sr)
+    write-field n f l r e q w = w ∙ rw (← is, e, q)
 
 -- the user's bank
 module _ (s : SystemState) (i : ℕ) (reg : List ℕ) where

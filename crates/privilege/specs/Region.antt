@@ -5,13 +5,16 @@
 --   byteAllowed l k a    == "each byte below 0xFFFF0000 and inside a region granting that access, ends exclusive"
 --   allAllowed l k at    == so for every address
 --   fieldOf, withField   == a region's START, END or FLAGS, the fields 0, 1, 2; "flags masked to 7"
+--   fieldWritten l n f v == the table with field f of region n written; past the table nothing is
 use Prim.Native.Nat.{ℕ, _/_, _%_}
 use mathlib.Core.Bool.{Bool, true, false, cond, _&&_, _||_}
 use mathlib.Core.List.{List, [], _∷_}
 use lib.Dec.{eqb, ltb, leb}
+use lib.ListN.{getD, set}
 use Rattle.mmu.specs.Check.{belowReserved}
 use Rattle.mmu.specs.Exception.{regionBit}
 use Rattle.mmu.specs.declared.exception.Access.{Access}
+use Rattle.privilege.specs.State.{noRegion}
 use Rattle.privilege.specs.declared.region.Region.{Region}
 
 unfoldable pub grantsOf : Region → ℕ → Access → Bool
@@ -36,3 +39,6 @@ withField g f v =
     cond (eqb f 0) (record { start = v; end = g .end; flags = g .flags })
     (cond (eqb f 1) (record { start = g .start; end = v; flags = g .flags })
     (record { start = g .start; end = g .end; flags = v % 8 }))
+
+abbrev pub fieldWritten : List Region → ℕ → ℕ → ℕ → List Region
+fieldWritten l n f v = set l n (withField (getD l n noRegion) f v)

@@ -16,7 +16,7 @@ use Rattle.common.specs.Bits.{bitSet}
 use Rattle.common.specs.declared.Refusal.the-variants as refusal
 use Rattle.mmu.specs.Vm.{flushed, invalidated}
 use Rattle.mmu.specs.declared.vm.Vm.{Vm}
-use Rattle.privilege.specs.Region.{fieldOf, withField}
+use Rattle.privilege.specs.Region.{fieldOf, fieldWritten}
 use Rattle.privilege.specs.State.{noRegion, bitIf, statusOf, statusSet, withEpc, withCause, withOther, withRegions, withVm}
 use Rattle.privilege.specs.declared.state.SystemState.{SystemState}
 use Rattle.privilege.specs.declared.registers.RegionField.{RegionField}
@@ -73,7 +73,7 @@ unfoldable pub userWritten : SystemState → ℕ → ℕ → List ℕ → SrWrit
 userWritten s i v reg = cond (s .user) (written s (set reg (28 + i) v)) (written (withOther s (set (s .«other_bank») i v)) reg)
 
 abbrev pub regionWritten : SystemState → List ℕ → ℕ → RegionField → SrWritten
-regionWritten s reg v (At n f) = written (withRegions s (set (s .regions) n (withField (getD (s .regions) n noRegion) f v))) reg
+regionWritten s reg v (At n f) = written (withRegions s (fieldWritten (s .regions) n f v)) reg
 regionWritten s reg v Nothing = record { sys = s; reg = reg; answer = answer.Refused refusal.Register }
 
 -- "A PTBR write clears its low 12 bits and flushes. VCTL keeps bit 0 and flushes nothing."

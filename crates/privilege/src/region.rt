@@ -1,7 +1,7 @@
 // Regions: which addresses a user may touch while translation is off.
 ghost use mathlib.Core.Path.{_≡_};
 ghost use Rattle.privilege.specs.Addresses.{stepped};
-ghost use Rattle.privilege.specs.Region.{grantsOf, someGrants, byteAllowed, allAllowed, fieldOf, withField};
+ghost use Rattle.privilege.specs.Region.{grantsOf, someGrants, byteAllowed, allAllowed, fieldOf, withField, fieldWritten};
 use mmu::check::CPU_RESERVED_BASE;
 use mmu::exception::Access;
 use mmu::exception::region_bit;
@@ -58,6 +58,19 @@ impl Region {
             }
         }
     }
+}
+
+// The table with one field of one region written. Past the table nothing is.
+pub fn write_field(regions: [Region; 8], n: usize, field: usize, value: u32) -> [Region; 8]
+    ensures { λ r. ⌜ r ≡ fieldWritten regions n field value ⌝ }
+{
+    let mut left = regions;
+    if n < REGION_COUNT {
+        let region = left[n];
+        left[n] = region.with_field(field, value);
+        return left;
+    }
+    left
 }
 
 fn some_grants(regions: [Region; 8], addr: u32, access: Access) -> bool

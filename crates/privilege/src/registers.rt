@@ -3,6 +3,7 @@ ghost use mathlib.Core.Path.{_≡_};
 ghost use Prim.Native.Nat.{_<_};
 ghost use Rattle.privilege.specs.Registers.{regionField, userRead, userWritten, regionRead, regionWritten, written, srRead, srWritten};
 use crate::region::REGION_COUNT;
+use crate::region::write_field;
 use crate::state::PAGE_SIZE;
 use crate::state::SystemState;
 use crate::trap::BANK_FIRST;
@@ -133,8 +134,9 @@ impl SystemState {
                 answer: SrAnswer::Refused(Refusal::Register),
             };
         };
-        let region = self.regions[n];
-        self.regions[n] = region.with_field(field, value);
+        let old = self.regions;
+        let left = write_field(old, n, field, value);
+        self.regions = left;
         done(self, reg)
     }
 

@@ -3,11 +3,11 @@ use borrow.Author.Needs.{needs}
 use Rattle.mmu.proofs.vm.Vm.new.Statement.{statement}
 use Rattle.mmu.proofs.vm.Vm.new.Tie as tie
 
-flush-requires : tie.Need-flush-requires
-flush-requires c κs = search needs
+empty-requires : tie.Need-empty-requires
+empty-requires c κs = search needs
 
 returns : tie.Need-returns
 returns c = cc
 
 pub new-spec : {M : Type 1} → statement M
-new-spec = tie.close (tie.spec flush-requires returns)
+new-spec = tie.close (tie.spec empty-requires returns)

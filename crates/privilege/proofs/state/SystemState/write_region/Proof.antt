@@ -1,10 +1,6 @@
 -- `privilege::state::SystemState::write_region` meets its contract: the number is no region's, or a field's. Assumes nothing.
 use borrow.Author.Needs.{needs}
-use mathlib.Core.Path.{_≡_, sym, _∙_}
-use native.Mathlib.Omega.{arith}
-use lib.ListN.{length}
-use Rattle.common.specs.Lists.{mapped-length}
-use Rattle.privilege.proofs.Numbers.{field-bound, write-unknown, write-field}
+use Rattle.privilege.proofs.Numbers.{write-unknown, write-field}
 use Rattle.privilege.proofs.state.SystemState.write_region.Statement.{statement}
 use Rattle.privilege.proofs.state.SystemState.write_region.Tie as tie
 
@@ -20,28 +16,8 @@ enum-told c = search needs
 returns : tie.Need-returns
 returns c = search write-unknown
 
-mul-region : tie.Need-mul-region
-mul-region c =
-    let n : length (c .before .before .before .before .args .t1 .regions) ≡ 8 = search (needs, mapped-length) in
-    omega (arith, field-bound _ _ _ (sym (c .before .before .before .region-field .ensures) ∙ c .before .place .given .1))
-
-element-copy-out-region : tie.Need-element-copy-out-region
-element-copy-out-region c =
-    let n : length (c .before .before .before .before .args .t1 .regions) ≡ 8 = search (needs, mapped-length) in
-    omega (arith, field-bound _ _ _ (sym (c .before .before .before .region-field .ensures) ∙ c .before .place .given .1))
-
-with-field-requires : tie.Need-with-field-requires
-with-field-requires c κs = search needs
-
-mul-t13 : tie.Need-mul-t13
-mul-t13 c =
-    let n : length (c .before .before .before .before .before .before .args .t1 .regions) ≡ 8 = search (needs, mapped-length) in
-    omega (arith, field-bound _ _ _ (sym (c .before .before .before .before .before .region-field .ensures) ∙ c .before .before .before .place .given .1))
-
-element-set-from-self : tie.Need-element-set-from-self
-element-set-from-self c =
-    let n : length (c .before .before .before .before .before .before .args .t1 .regions) ≡ 8 = search (needs, mapped-length) in
-    omega (arith, field-bound _ _ _ (sym (c .before .before .before .before .before .region-field .ensures) ∙ c .before .before .before .place .given .1))
+write-field-requires : tie.Need-write-field-requires
+write-field-requires c κs = search needs
 
 done-requires : tie.Need-done-requires
 done-requires c κs = search needs
@@ -57,10 +33,6 @@ write-region-spec =
     enum-known-place
     enum-told
     returns
-    mul-region
-    element-copy-out-region
-    with-field-requires
-    mul-t13
-    element-set-from-self
+    write-field-requires
     done-requires
     returns-2)
