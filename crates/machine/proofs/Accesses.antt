@@ -19,7 +19,7 @@ use Rattle.privilege.specs.declared.transfer.DataRead.the-variants as read
 use Rattle.privilege.specs.declared.transfer.DataWritten.{DataWritten}
 use Rattle.privilege.specs.declared.transfer.DataWritten.the-variants as written
 use Rattle.machine.specs.State.{withSys}
-use Rattle.machine.specs.Access.{Result, isRead, answered, presented, readOutcome, writeOutcome, readMoved, writeMoved, moved, permitted, accessOf}
+use Rattle.machine.specs.Access.{Result, isRead, deniedWith, refusedWith, presented, readOutcome, writeOutcome, readMoved, writeMoved, moved, permitted, accessOf}
 use Rattle.machine.specs.Access.Laws.{read-moved}
 use Rattle.machine.specs.declared.state.Machine.{Machine}
 use Rattle.machine.specs.declared.access.Accessed.{Accessed}
@@ -77,14 +77,13 @@ module _ (k : Access) (M : Machine) (m : Memory) (a n : ℕ) (c : AccessChecked)
   unfolding accessOf permitted
   read-allowed M′ r g p t e = e ∙ rw (t, ← is, p) (sym (moved-read k (withSys M (c .sys)) m a n 0 (c .reads) g))
 
-  pub read-denied : (M′ : Machine) (e : Exception) → c .permission ≡ Denied e → M′ ≡ withSys M (c .sys)
-      → answered M′ (outcome.Exception e) 0 (c .reads) ≡ accessOf k M m a n 0 .accessed
+  pub read-denied : (e : Exception) (r : Accessed) → c .permission ≡ Denied e → r ≡ deniedWith M (c .sys) e (c .reads) → r ≡ accessOf k M m a n 0 .accessed
   unfolding accessOf permitted
-  read-denied M′ e p t = rw (t, ← is, p)
+  read-denied e r p t = rw (t, ← is, p)
 
-  pub read-access-refused : (r : Refusal) → c .permission ≡ Refused r → answered M (outcome.Refused r) 0 0 ≡ accessOf k M m a n 0 .accessed
+  pub read-access-refused : (x : Refusal) (r : Accessed) → c .permission ≡ Refused x → r ≡ refusedWith M x → r ≡ accessOf k M m a n 0 .accessed
   unfolding accessOf permitted
-  read-access-refused r p = rw (← is, p)
+  read-access-refused x r p t = rw (t, ← is, p)
 
 -- a store, by what its check permits: its answer, and the bytes that it leaves
 module _ (M : Machine) (base : ℕ) (l : List ℕ) (a n v : ℕ) (c : AccessChecked) (is : c ≡ checkAccess (lent base l) (M .sys) a n Write) where
@@ -99,14 +98,14 @@ module _ (M : Machine) (base : ℕ) (l : List ℕ) (a n v : ℕ) (c : AccessChec
     unfolding accessOf permitted moved
     store-bytes after p e = e ∙ rw (t, ← is, p)
 
-    pub store-denied : (e : Exception) → c .permission ≡ Denied e
-        → answered M′ (outcome.Exception e) 0 (c .reads) ≡ accessOf Write M (lent base l) a n v .accessed
-    unfolding accessOf permitted
-    store-denied e p = rw (t, ← is, p)
-
-  pub store-refused : (r : Refusal) → c .permission ≡ Refused r → answered M (outcome.Refused r) 0 0 ≡ accessOf Write M (lent base l) a n v .accessed
+  pub store-denied : (e : Exception) (r : Accessed) → c .permission ≡ Denied e → r ≡ deniedWith M (c .sys) e (c .reads)
+      → r ≡ accessOf Write M (lent base l) a n v .accessed
   unfolding accessOf permitted
-  store-refused r p = rw (← is, p)
+  store-denied e r p t = rw (t, ← is, p)
+
+  pub store-refused : (x : Refusal) (r : Accessed) → c .permission ≡ Refused x → r ≡ refusedWith M x → r ≡ accessOf Write M (lent base l) a n v .accessed
+  unfolding accessOf permitted
+  store-refused x r p t = rw (t, ← is, p)
 
   pub denied-keeps : (e : Exception) → c .permission ≡ Denied e → l ≡ accessOf Write M (lent base l) a n v .memory .bytes
   unfolding accessOf permitted

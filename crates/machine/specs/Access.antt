@@ -3,9 +3,10 @@
 --   Result                == what an access answers, and the memory that it leaves
 --   presented k c pa      == the cache asked once: a load or fetch may cost its stall, a store snoops and costs 0
 --   readOutcome, writeOutcome == the data's answer: a value, or a bus error and no value; a store answers 0
+--   deniedWith, refusedWith == a denied or refused access: "A denied check touches neither"
 --   readMoved, writeMoved == an allowed load or fetch, and an allowed store: the cache, then memory
 --   moved k M m ..        == an allowed access
---   accessOf k M m a n v  == the access k of n bytes at a, storing v: refusal 2, then 1; "A denied check touches neither"
+--   accessOf k M m a n v  == the access k of n bytes at a, storing v: refusal 2, then 1
 use Prim.Native.Nat.{ℕ}
 use mathlib.Core.Bool.{Bool, true, false}
 use Rattle.cache.specs.Cache.{loaded, fetched, stored}
@@ -15,6 +16,7 @@ use Rattle.common.specs.declared.Refusal.{Refusal}
 use Rattle.memory.specs.Memory.{Memory}
 use Rattle.mmu.specs.declared.exception.Access.{Access}
 use Rattle.mmu.specs.declared.exception.Access.the-variants.{Read, Write, Fetch}
+use Rattle.mmu.specs.declared.exception.Exception as exception
 use Rattle.privilege.specs.Access.{checkAccess}
 use Rattle.privilege.specs.Transfer.{physicalOf, dataRead, dataWritten, memoryAfter}
 use Rattle.privilege.specs.declared.check.AccessChecked.{AccessChecked}
@@ -44,6 +46,12 @@ isRead Write = false
 
 abbrev pub answered : Machine → Outcome → ℕ → ℕ → Accessed
 answered M outcome stall reads = record { machine = M; outcome = outcome; stall = stall; reads = reads }
+
+abbrev pub deniedWith : Machine → SystemState → exception.Exception → ℕ → Accessed
+deniedWith M sys e reads = answered (withSys M sys) (Exception e) 0 reads
+
+abbrev pub refusedWith : Machine → Refusal → Accessed
+refusedWith M r = answered M (Refused r) 0 0
 
 unfoldable pub presented : Access → L1Cache → ℕ → CacheAccess
 presented Read c pa = loaded c pa
@@ -85,8 +93,8 @@ moved Write M m a n v reads = writeMoved M m a n v reads
 -- by what the check permits
 unfoldable pub permitted : Access → Machine → Memory → ℕ → ℕ → ℕ → AccessChecked → Permission → Result
 permitted k M m a n v c permission.Allowed = moved k (withSys M (c .sys)) m a n v (c .reads)
-permitted k M m a n v c (permission.Denied e) = record { accessed = answered (withSys M (c .sys)) (Exception e) 0 (c .reads); memory = m }
-permitted k M m a n v c (permission.Refused r) = record { accessed = answered M (Refused r) 0 0; memory = m }
+permitted k M m a n v c (permission.Denied e) = record { accessed = deniedWith M (c .sys) e (c .reads); memory = m }
+permitted k M m a n v c (permission.Refused r) = record { accessed = refusedWith M r; memory = m }
 
 -- after the check
 abbrev pub afterCheck : Access → Machine → Memory → ℕ → ℕ → ℕ → AccessChecked → Result

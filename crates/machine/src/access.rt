@@ -3,7 +3,7 @@ ghost use mathlib.Core.Path.{_≡_};
 ghost use mathlib.Core.Bool.{true};
 ghost use Rattle.memory.specs.Memory.{lent};
 ghost use Rattle.mmu.specs.declared.exception.Access.the-variants.{Read, Write, Fetch};
-ghost use Rattle.machine.specs.Access.{isRead, presented, readOutcome, writeOutcome, readMoved, writeMoved, accessOf};
+ghost use Rattle.machine.specs.Access.{isRead, presented, readOutcome, writeOutcome, deniedWith, refusedWith, readMoved, writeMoved, accessOf};
 use crate::state::Machine;
 use cache::CacheAccess;
 use cache::L1Cache;
@@ -11,6 +11,7 @@ use common::Refusal;
 use mmu::exception::Access;
 use mmu::exception::Exception;
 use privilege::check::Permission;
+use privilege::state::SystemState;
 use privilege::transfer::DataRead;
 use privilege::transfer::DataWritten;
 
@@ -64,6 +65,29 @@ fn write_outcome(answer: DataWritten) -> Outcome
 }
 
 impl Machine {
+    // A denied check touches neither cache nor memory; its walks and fills stay.
+    fn denied(self, sys: SystemState, e: Exception, reads: u32) -> Accessed
+        ensures { λ r. ⌜ r ≡ deniedWith self sys e reads ⌝ }
+    {
+        Accessed {
+            machine: self.with_sys(sys),
+            outcome: Outcome::Exception(e),
+            stall: 0,
+            reads,
+        }
+    }
+
+    fn refused(self, refusal: Refusal) -> Accessed
+        ensures { λ r. ⌜ r ≡ refusedWith self refusal ⌝ }
+    {
+        Accessed {
+            machine: self,
+            outcome: Outcome::Refused(refusal),
+            stall: 0,
+            reads: 0,
+        }
+    }
+
     // A load or fetch. The memory stays as it is.
     fn read_access(self, mem: &[u8], base: u32, addr: u32, size: u32, access: Access) -> Accessed
         requires { ⌜ isRead access ≡ true ⌝ }
@@ -77,18 +101,8 @@ impl Machine {
                 let allowed = self.with_sys(sys);
                 allowed.read_moved(mem, base, addr, size, access, checked.reads)
             }
-            Permission::Denied(e) => Accessed {
-                machine: self.with_sys(sys),
-                outcome: Outcome::Exception(e),
-                stall: 0,
-                reads: checked.reads,
-            },
-            Permission::Refused(r) => Accessed {
-                machine: self,
-                outcome: Outcome::Refused(r),
-                stall: 0,
-                reads: 0,
-            },
+            Permission::Denied(e) => self.denied(sys, e, checked.reads),
+            Permission::Refused(r) => self.refused(r),
         }
     }
 
@@ -139,18 +153,8 @@ impl Machine {
                 let allowed = self.with_sys(sys);
                 allowed.write_moved(mem, base, addr, size, value, checked.reads)
             }
-            Permission::Denied(e) => Accessed {
-                machine: self.with_sys(sys),
-                outcome: Outcome::Exception(e),
-                stall: 0,
-                reads: checked.reads,
-            },
-            Permission::Refused(r) => Accessed {
-                machine: self,
-                outcome: Outcome::Refused(r),
-                stall: 0,
-                reads: 0,
-            },
+            Permission::Denied(e) => self.denied(sys, e, checked.reads),
+            Permission::Refused(r) => self.refused(r),
         }
     }
 

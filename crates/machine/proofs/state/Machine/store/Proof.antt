@@ -19,11 +19,14 @@ write-moved-requires c κs = search needs
 enum-known-permission : tie.Need-enum-known-permission
 enum-known-permission c = search needs
 
-with-sys-requires-2 : tie.Need-with-sys-requires-2
-with-sys-requires-2 c κs = search needs
+denied-requires : tie.Need-denied-requires
+denied-requires c κs = search needs
 
 enum-known-permission-2 : tie.Need-enum-known-permission-2
 enum-known-permission-2 c = search needs
+
+refused-requires : tie.Need-refused-requires
+refused-requires c κs = search needs
 
 same-length : tie.Need-same-length
 same-length c = search needs
@@ -52,8 +55,9 @@ store-spec =
     with-sys-requires
     write-moved-requires
     enum-known-permission
-    with-sys-requires-2
+    denied-requires
     enum-known-permission-2
+    refused-requires
     same-length
     returns
     same-length-2
