@@ -9,8 +9,6 @@ pub corners-hold : Corners
 unfolding bitSet noTags accessed enabledTo controlled dropLines swept cacheableAt loaded externalWritten ctrlWord regRead regWritten laneOf merged
 corners-hold =
     record {
-      p11-inside = λ c. refl;
-      p11-start = λ c. refl;
       two-lines = λ c. refl;
       one-line = λ c. refl;
       around = λ c. refl;

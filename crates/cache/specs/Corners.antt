@@ -1,4 +1,4 @@
--- The figures of document 01 'L1 tag cache' and its corner P11, each computed from the definitions.
+-- The figures of document 01 'L1 tag cache', each computed from the definitions. Corner P11 is in the crate `cases`.
 --
 --   aBank, aCache   == a bank with counts, and a cache of two such over [start, start + size) with a penalty
 --   Corners         == the figures, one field each
@@ -23,9 +23,6 @@ abbrev pub drops : L1Cache → ℕ → L1Cache
 drops c j = withBanks c (withTags (c .i) (set (c .i .tags) j noTag)) (withTags (c .d) (set (c .d .tags) j noTag))
 
 pub record Corners : Type 0 where
-  -- P11: an external write of length 0 at 0x25 drops index 1, at 0x20 none
-  pub p11-inside : (c : L1Cache) → externalWritten c 0x25 0 ≡ drops c 1
-  pub p11-start : (c : L1Cache) → externalWritten c 0x20 0 ≡ c
   -- a line is dropped when its first byte is written; the index of line 256 is 0; the sweep stops after the topmost line
   pub two-lines : (c : L1Cache) → externalWritten c 0x1F 2 ≡ drops (drops c 0) 1
   pub one-line : (c : L1Cache) → externalWritten c 0x1F 1 ≡ drops c 0

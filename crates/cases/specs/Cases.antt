@@ -9,6 +9,7 @@ use mathlib.Core.List.{List}
 use Rattle.cache.specs.Cache.{externalWritten}
 use Rattle.cache.specs.Corners.{drops}
 use Rattle.cache.specs.declared.L1Cache.{L1Cache}
+use Rattle.common.specs.Refusal.{refusalNumber}
 use Rattle.common.specs.declared.Refusal.the-variants.{Register}
 use Rattle.irqc.specs.Irqc.{outputOf}
 use Rattle.irqc.specs.declared.IrqController.{IrqController}
@@ -47,6 +48,7 @@ pub record Cases : Type 0 where
       × (readBack newState reg 0x2E 0xFF ≡ Value 7)
       × (srRead s 0x2F reg ≡ Refused Register)
       × (srRead s 0x30 reg ≡ Refused Register)
+      × (refusalNumber Register ≡ 3)
   -- "syscall 0x1234: 0x80031234"
   pub p4 : causeOf (Syscall 0x1234) ≡ 0x8003_1234
   -- "protection page fault on a write: 0x8006000A"

@@ -27,6 +27,5 @@ meaning-holds =
     }
 
 pub corners-hold : Corners
-unfolding causeOf leafOk tableOk leafEntry bitSet
-corners-hold =
-    record { syscall = refl; write-protection = λ addr. refl; leaf-w-alone = refl; leaf-r-u = refl; huge = refl; entry = refl }
+unfolding leafEntry
+corners-hold = record { entry = refl }

@@ -2,7 +2,7 @@
 --
 --   slotOf vm i      == the entry at slot i
 --   Meaning          == the laws, one field a sentence
---   Corners          == the corner table's figures that are the MMU's, computed
+--   Corners          == a figure, computed; those of document 01's corner table are in the crate `cases`
 use Prim.Native.Nat.{ℕ, _+_, _*_, _/_, _%_, _^_, _≤_, _<_}
 use mathlib.Core.Path.{_≡_}
 use mathlib.Core.Bool.{true, false}
@@ -53,13 +53,5 @@ pub record Meaning : Type 0 where
       → getD (droppedPage vpn l) i noEntry ≡ markDropped (eqb (getD l i noEntry .vpn) vpn) (getD l i noEntry)
 
 pub record Corners : Type 0 where
-  -- P4 and P5
-  pub syscall : causeOf (Syscall 0x1234) ≡ 0x8003_1234
-  pub write-protection : (addr : ℕ) → causeOf (PageFault Write true addr) ≡ 0x8006_000A
-  -- P8: a leaf with W needs R; 0x3013 has R and U
-  pub leaf-w-alone : leafOk 0x3005 ≡ false
-  pub leaf-r-u : leafOk 0x3013 ≡ true
-  -- P9: a level-1 word with R is a huge page, which is unmapped
-  pub huge : tableOk 0x2003 ≡ false
   -- a leaf's entry has its frame, and R, W, X and U alone
   pub entry : leafEntry 0x5FFC 0x0002_1013 ≡ record { valid = true; vpn = 5; ppn = 0x21; flags = 0x12 }

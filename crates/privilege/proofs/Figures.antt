@@ -15,18 +15,9 @@ use Rattle.privilege.specs.Trap.{trapped, returned}
 use Rattle.privilege.specs.declared.registers.SrRead.the-variants.{Value}
 
 pub corners-hold : Corners
-unfolding bitSet refusalNumber causeOf fetchSize dataSize legalSize allowsOf stepped grantsOf someGrants allAllowed fieldOf withField regionField srRead srWritten noRegions statusOf statusSet trapped returned
+unfolding bitSet fetchSize dataSize legalSize allowsOf stepped grantsOf someGrants allAllowed fieldOf withField regionField srRead srWritten noRegions statusOf statusSet trapped returned
 corners-hold =
     record {
-      p1 = refl;
-      p2 = λ s reg. ap (λ (vm : Vm). Value (vm .ptbr)) (flushed-is (vmPtbr (s .vm) 0x1000));
-      p3 = λ s reg. (refl, refl, refl, refl);
-      p3-number = refl;
-      p4 = refl;
-      p5 = λ addr. refl;
-      p6 = (refl, refl);
-      p7 = (refl, refl, refl, refl, refl, refl);
-      p12 = λ reg. refl;
       before-region = refl;
       other-access = refl;
       word-in = refl;

@@ -1,4 +1,4 @@
--- The cases P1 to P7 and P12 of document 01's corner table, and more figures of the same kind, computed from the definitions.
+-- Figures of the kind of document 01's corner table, computed from the definitions. The table itself is the crate `cases`.
 --
 --   aRegion start end flags    == a user's state, translation off, whose region 0 is this and whose others are 0
 --   inUser                     == a new state in user mode
@@ -47,33 +47,7 @@ abbrev pub someRegisters : List ℕ
 someRegisters = set (set (set (replicate 32 0) 28 1) 29 2) 30 3
 
 pub record Corners : Type 0 where
-  -- P1 "STATUS at reset 3"
-  pub p1 : statusOf newState ≡ 3
-  -- P2 "PTBR written 0x1FFF reads 0x1000"
-  pub p2 : (s : SystemState) (reg : List ℕ) → readBack s reg 0x41 0x1FFF ≡ Value 0x1000
-  -- P3 "register 0x13 unknown; 0x2E written 0xFF reads 7; 0x2F and 0x30 unknown"
-  pub p3 : (s : SystemState) (reg : List ℕ) →
-      (srRead s 0x13 reg ≡ Refused Register)
-      × (readBack newState reg 0x2E 0xFF ≡ Value 7)
-      × (srRead s 0x2F reg ≡ Refused Register)
-      × (srRead s 0x30 reg ≡ Refused Register)
-  pub p3-number : refusalNumber Register ≡ 3
-  -- P4 "syscall 0x1234: 0x80031234", P5 "protection page fault on a write: 0x8006000A"
-  pub p4 : causeOf (Syscall 0x1234) ≡ 0x8003_1234
-  pub p5 : (addr : ℕ) → causeOf (PageFault Write true addr) ≡ 0x8006_000A
-  -- P6 "region 0x1000 to 0x2000 for reading: 0x1FFF allowed, 0x2000 not"
-  pub p6 : (allowsOf (aRegion 0x1000 0x2000 1) 0x1FFF 1 Read ≡ true) × (allowsOf (aRegion 0x1000 0x2000 1) 0x2000 1 Read ≡ false)
-  -- P7 "region 0 to 0xFFFFFFFF, flags 7: 0xFFFEFFFF allowed, 0xFFFF0000 not"
-  pub p7 :
-      (allowsOf (aRegion 0 0xFFFF_FFFF 7) 0xFFFE_FFFF 1 Read ≡ true)
-      × (allowsOf (aRegion 0 0xFFFF_FFFF 7) 0xFFFE_FFFF 1 Write ≡ true)
-      × (allowsOf (aRegion 0 0xFFFF_FFFF 7) 0xFFFE_FFFF 1 Fetch ≡ true)
-      × (allowsOf (aRegion 0 0xFFFF_FFFF 7) 0xFFFF_0000 1 Read ≡ false)
-      × (allowsOf (aRegion 0 0xFFFF_FFFF 7) 0xFFFF_0000 1 Write ≡ false)
-      × (allowsOf (aRegion 0 0xFFFF_FFFF 7) 0xFFFF_0000 1 Fetch ≡ false)
-  -- P12 "IRET in user mode with PU set keeps R28 to R30"
-  pub p12 : (reg : List ℕ) → returned (withStatus inUser true true true true Normal) reg .reg ≡ reg
-  -- the other bytes of an access, a wrong kind of access, and a word over the end
+  -- beside P6: the other bytes of an access, a wrong kind of access, and a word over the end
   pub before-region : allowsOf (aRegion 0x1000 0x2000 1) 0x0FFF 1 Read ≡ false
   pub other-access : allowsOf (aRegion 0x1000 0x2000 1) 0x1FFF 1 Write ≡ false
   pub word-in : allowsOf (aRegion 0x1000 0x2000 1) 0x1FFC 4 Read ≡ true

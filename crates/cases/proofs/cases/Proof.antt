@@ -1,31 +1,41 @@
--- `cases::cases` holds: the parts' own figures, and P10 computed. Assumes nothing.
-use mathlib.Core.Path.{refl}
+-- `cases::cases` holds: each case is computed from the parts' definitions. Assumes nothing.
+use mathlib.Core.Path.{refl, ap}
+use Rattle.cache.specs.Bank.{dropLines, swept}
+use Rattle.cache.specs.Cache.{externalWritten}
 use Rattle.common.specs.Bits.{bitSet}
-use Rattle.cache.proofs.Figures as cache
+use Rattle.common.specs.Refusal.{refusalNumber}
 use Rattle.irqc.specs.Irqc.{lowestFrom}
-use Rattle.mmu.proofs.Sentences as mmu
-use Rattle.privilege.proofs.Figures as privilege
+use Rattle.mmu.specs.Exception.{causeOf}
+use Rattle.mmu.specs.Vm.Laws.{flushed-is}
+use Rattle.mmu.specs.Walk.{tableOk, leafOk}
+use Rattle.mmu.specs.declared.vm.Vm.{Vm}
+use Rattle.privilege.specs.Access.{allowsOf}
+use Rattle.privilege.specs.Addresses.{stepped}
+use Rattle.privilege.specs.Region.{grantsOf, someGrants, allAllowed, fieldOf, withField}
+use Rattle.privilege.specs.Registers.{regionField, srRead, srWritten, vmPtbr}
+use Rattle.privilege.specs.State.{noRegions, statusOf}
+use Rattle.privilege.specs.Trap.{returned}
+use Rattle.privilege.specs.declared.registers.SrRead.the-variants.{Value}
 use Rattle.cases.specs.Cases.{Cases}
 use Rattle.cases.proofs.cases.Statement.{statement}
 use Rattle.cases.proofs.cases.Tie as tie
 
 table : Cases
-unfolding lowestFrom bitSet
+unfolding bitSet refusalNumber lowestFrom dropLines swept externalWritten causeOf tableOk leafOk allowsOf stepped grantsOf someGrants allAllowed fieldOf withField regionField srRead srWritten noRegions statusOf returned
 table =
-    let p = privilege.corners-hold in
     record {
-      p1 = p .p1;
-      p2 = p .p2;
-      p3 = p .p3;
-      p4 = p .p4;
-      p5 = p .p5;
-      p6 = p .p6;
-      p7 = p .p7;
-      p8 = (mmu.corners-hold .leaf-w-alone, mmu.corners-hold .leaf-r-u);
-      p9 = mmu.corners-hold .huge;
+      p1 = refl;
+      p2 = λ s reg. ap (λ (vm : Vm). Value (vm .ptbr)) (flushed-is (vmPtbr (s .vm) 0x1000));
+      p3 = λ s reg. (refl, refl, refl, refl, refl);
+      p4 = refl;
+      p5 = λ addr. refl;
+      p6 = (refl, refl);
+      p7 = (refl, refl, refl, refl, refl, refl);
+      p8 = (refl, refl);
+      p9 = refl;
       p10 = λ level. (refl, refl, refl);
-      p11 = λ c. (cache.corners-hold .p11-inside c, cache.corners-hold .p11-start c);
-      p12 = p .p12;
+      p11 = λ c. (refl, refl);
+      p12 = λ reg. refl;
     }
 
 returns : tie.Need-returns
