@@ -4,6 +4,7 @@
 --   cond-holds     == what holds of both branches holds of the choice
 --   cond-case      == the same, where each branch may use what the test said
 --   lt-or-ge       == of two numbers the first is smaller, or it is not
+--   and-left, and-right, and-false == what a conjunction says of its parts
 --   absurd-eq      == two constructors that are equal prove anything: `cc` finds `0 ≡ 1`
 use Prim.Native.Nat.{ℕ, _<_, _≤_}
 use mathlib.Core.Path.{_≡_, refl}
@@ -38,3 +39,7 @@ and-left false b p = p
 pub and-right : (a b : Bool) → (a && b) ≡ true → b ≡ true
 and-right true b p = p
 and-right false b p = absurd-eq (cc)
+
+pub and-false : (b : Bool) → (b && false) ≡ false
+and-false true = refl
+and-false false = refl

@@ -7,7 +7,7 @@ use native.Mathlib.Nat.{eq-or-lt-of-le}
 use native.Mathlib.Omega.{arith}
 use borrow.Author.Tests.{lt-ltb, le-ltb, eq-eqb, eqb-true}
 use lib.Dec.{eqb, ltb}
-use Rattle.common.specs.Cases.{bool-is, absurd-eq, cond-holds}
+use Rattle.common.specs.Cases.{bool-is, absurd-eq, cond-holds, and-false}
 use Rattle.common.specs.Bits.{bitSet, withBit}
 use Rattle.common.specs.Bits.Laws.{with-bit, without-bit, without-bits}
 use Rattle.irqc.specs.Irqc.{output, active, lowestFrom, outputOf, raised, lowered, sourceSet, pendingCleared, maskSet, byteWritten}
@@ -81,10 +81,6 @@ level-is c n true h = simp (lt-ltb n 16 h, with-bit (c .«source_level») n n, e
     or-true true = refl
     or-true false = refl
 level-is c n false h = simp (lt-ltb n 16 h, without-bit 16 (c .«source_level») n n h h, eq-eqb n n refl) (and-false (bitSet (c .«source_level») n))
-  where
-    and-false : (b : Bool) → (b && false) ≡ false
-    and-false true = refl
-    and-false false = refl
 
 past : (c : IrqController) (n : ℕ) (level : Bool) → 16 ≤ n → sourceSet c n level ≡ c
 unfolding sourceSet

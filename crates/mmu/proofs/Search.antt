@@ -7,14 +7,11 @@ use native.Mathlib.Numerals.{add-one}
 use lib.ListN.{length, getD, drop, drop-of-length-le}
 use lib.Seq.{drop-cons}
 use borrow.Author.Tests.{eq-eqb, ne-eqb}
+use Rattle.common.specs.Cases.{and-false}
 use Rattle.mmu.specs.Tlb.{noEntry, matches, firstMatch}
 use Rattle.mmu.specs.declared.tlb.TlbEntry.{TlbEntry}
 use Rattle.mmu.specs.declared.tlb.Slot.{Slot}
 use Rattle.mmu.specs.declared.tlb.Slot.the-variants.{At, Nothing}
-
-and-none : (b : Bool) → (b && false) ≡ false
-and-none true = refl
-and-none false = refl
 
 module _ (z : Slot) (vpn : ℕ) (l : List TlbEntry) (i : ℕ) (p : z ≡ firstMatch vpn i (drop i l)) where
   pub none-left : length l ≤ i → Nothing ≡ z
@@ -35,4 +32,4 @@ module _ (z : Slot) (vpn : ℕ) (l : List TlbEntry) (i : ℕ) (p : z ≡ firstMa
 
   pub other-page : i < length l → (getD l i noEntry .vpn ≡ vpn → ⊥) → z ≡ firstMatch vpn (i + 1) (drop (i + 1) l)
   unfolding matches
-  other-page h e = next h (rw (ne-eqb (getD l i noEntry .vpn) vpn e, and-none))
+  other-page h e = next h (rw (ne-eqb (getD l i noEntry .vpn) vpn e, and-false))

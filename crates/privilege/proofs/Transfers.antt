@@ -13,7 +13,7 @@ use Rattle.common.specs.Bytes.{bytesOf}
 use Rattle.common.specs.Cases.{absurd-eq}
 use Rattle.common.specs.declared.Refusal.the-variants.{Size, Map}
 use Rattle.memory.specs.Memory.{Memory, lent, inside, byteAt, readAt, wordSpots, putByte, putAt, allInside}
-use Rattle.memory.specs.Memory.Laws.{put-base, put-map, all-inside-same}
+use Rattle.memory.specs.Memory.Laws.{lent-put, put-base, put-map, all-inside-same}
 use Rattle.memory.specs.declared.Content.{Content}
 use Rattle.memory.specs.declared.Content.the-variants.{Value, Outside}
 use Rattle.mmu.specs.Tlb.{noEntry, firstMatch}
@@ -158,9 +158,6 @@ module _ (base : ℕ) (l : List ℕ) (s : SystemState) (va n v : ℕ) (good : Bo
 
 -- ---- stores: the loop, with n bytes of v left from address a on
 
-put-lent : (m : Memory) (a b : ℕ) → lent (m .base) (putByte m a b .bytes) ≡ putByte m a b
-put-lent m a b = ap (λ (x : ℕ). lent x (putByte m a b .bytes)) (sym (put-base m a b))
-
 bytes-next : (n v : ℕ) → bytesOf (suc n) v ≡ v / 256 ^ n % 256 ∷ bytesOf n v
 unfolding bytesOf
 bytes-next n v = refl
@@ -171,7 +168,7 @@ module _ (base : ℕ) (l : List ℕ) (s : SystemState) (v n a : ℕ) (pa b next 
   len = omega arith
 
   memory : lent base after ≡ putByte (lent base l) pa b
-  memory = rw put (put-lent (lent base l) pa b)
+  memory = rw put (lent-put (lent base l) pa b)
 
   pub put-on : (z : Memory) → z ≡ putAt (lent base l) (spots s a n) (bytesOf n v) → z ≡ putAt (lent base after) (spots s next (n - 1)) (bytesOf (n - 1) v)
   put-on z p = rw len at p ∙ rw (spots-next, bytes-next, ← at, ← byte, put-next, ← memory, ← step)
