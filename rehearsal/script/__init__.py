@@ -1,0 +1,1 @@
+"""Scripts as bytes: header, events, sections, and page tables in an image."""

@@ -1,0 +1,1 @@
+"""Scripts as text; docs/TEXT.md describes the format."""
