@@ -1,4 +1,8 @@
-"""Tests of the rehearsal package.
+"""Tests of the rehearsal package. They need no built program: what the programs print is stored.
 
     python3 -m unittest discover -s tests -t .
+
+What is stored of the examples, in golden/, the built programs write again:
+
+    python3 -m tests.golden
 """

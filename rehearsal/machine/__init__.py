@@ -1,0 +1,1 @@
+"""The proved programs: built, run, and what they print."""
