@@ -7,7 +7,7 @@ from rehearsal.language.forms import FORMS
 from rehearsal.text.assemble import assemble
 from rehearsal.text.fields import FIELDS
 from rehearsal.text.reading import IMAGE_LINES
-from tests.stored import EXAMPLES, ROOT
+from tests.stored import EXAMPLES, GOLDEN, ROOT
 
 TEXT = (ROOT / "docs" / "TEXT.md").read_text()
 
@@ -24,6 +24,13 @@ class Documents(unittest.TestCase):
         cache = {*names.CACHE_REGISTERS, *names.CACHE_FLAGS}
         flags = {*names.STATUS_FLAGS, *names.REGION_FLAGS, *names.CAUSE.names}
         self.assertEqual((keywords | registers | cache | flags) - described, set())
+
+    def test_the_readme_shows_lines_of_the_demo(self):
+        readme = (ROOT / "README.md").read_text()
+        shown = re.findall(r"^    (\d+ [VXBN] .*)$", readme, re.MULTILINE)
+        demo = (GOLDEN / "pit_goes_wrong.explained").read_text().splitlines()
+        self.assertEqual([line for line in shown if line not in demo], [])
+        self.assertGreater(len(shown), 2)
 
     def test_commands_of_the_examples(self):
         for path in EXAMPLES.glob("*.script"):
