@@ -1,2 +1,4 @@
 pub mod Cache
+pub mod Machine
 pub mod Mmu
+pub mod Privilege
