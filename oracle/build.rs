@@ -1,6 +1,7 @@
-//! Writes the file of `mod` items through which `lib.rs` compiles the published modules from
-//! where they stand, so that no copy of them is in this repository. With the feature `port` it
-//! also tells the linker where the port's static library is.
+//! Writes the file of `mod` items through which `lib.rs` compiles the published modules, so that no
+//! copy of them is in this repository. Each is compiled from its text in a checkout, unchanged, with
+//! a module of ours behind it that shows its private state (`src/windows/`). With the feature `port`
+//! it also tells the linker where the port's static libraries are.
 
 use std::env;
 use std::fs;
@@ -27,6 +28,9 @@ fn main() {
     }
     if env::var_os("CARGO_FEATURE_PORT").is_some() {
         link_port(&home);
+    }
+    if env::var_os("CARGO_FEATURE_FUZZ").is_some() {
+        link_fuzzer();
     }
 }
 
@@ -68,18 +72,54 @@ fn item(checkout: &Path, inside: &str) -> String {
     }
     println!("cargo:rerun-if-changed={}", path.display());
     let name = path.file_stem().unwrap_or_default().to_string_lossy();
-    format!("#[allow(warnings, clippy::all)]\n#[path = {path:?}]\npub mod {name};\n")
+    let compiled = with_window(&path, &name);
+    format!("#[allow(warnings, clippy::all)]\n#[path = {compiled:?}]\npub mod {name};\n")
 }
 
-/// The port is made by `rt staticlib bridge` below the repository's target folder.
+/// The published text, and behind it the module that sees its private fields, where there is one.
+fn with_window(path: &Path, name: &str) -> PathBuf {
+    let window =
+        PathBuf::from(variable("CARGO_MANIFEST_DIR")).join(format!("src/windows/{name}.rs"));
+    if !window.is_file() {
+        return path.to_path_buf();
+    }
+    println!("cargo:rerun-if-changed={}", window.display());
+    let compiled = PathBuf::from(variable("OUT_DIR")).join(format!("{name}.rs"));
+    let text = fs::read_to_string(path)
+        .map(|text| format!("{text}\n#[path = {window:?}]\nmod window;\n"))
+        .and_then(|text| fs::write(&compiled, text));
+    if let Err(error) = text {
+        panic!("{} with its window: {error}", path.display());
+    }
+    compiled
+}
+
+/// Programs that call the port through `libbridge.a`.
+const BRIDGED: [&str; 2] = ["beside", "fuzz"];
+
+/// The port's static libraries are made by `rt staticlib NAME` below the repository's target folder,
+/// or stand in the folder that PORT names.
 fn link_port(home: &Path) {
-    let folder = home.join("../target/staticlib");
+    println!("cargo:rerun-if-env-changed=PORT");
+    let named = env::var_os("PORT").map(PathBuf::from);
+    let folder = named.unwrap_or_else(|| home.join("../target/staticlib"));
     println!("cargo:rustc-link-search=native={}", folder.display());
     let library = folder.join("libbridge.a");
     println!("cargo:rerun-if-changed={}", library.display());
+    for name in BRIDGED {
+        println!("cargo:rustc-link-arg-bin={name}={}", library.display());
+    }
     if !library.exists() {
         println!(
             "cargo:warning=target/staticlib/libbridge.a is missing: rt staticlib bridge makes it"
         );
+    }
+}
+
+/// libFuzzer has `main`, and is written in C++.
+fn link_fuzzer() {
+    println!("cargo:rerun-if-env-changed=LIBFUZZER");
+    for word in [variable("LIBFUZZER"), "-lstdc++".to_string()] {
+        println!("cargo:rustc-link-arg-bin=fuzz={word}");
     }
 }

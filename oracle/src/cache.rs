@@ -10,7 +10,7 @@ use std::rc::Rc;
 use crate::bus::{Bus, Device};
 use crate::cpu_cache::{connect_cache, L1Cache, CACHE_REG_BASE};
 use crate::event::{Event, Replay};
-use crate::tags::Cache;
+use crate::state::Cache;
 
 pub const KIND_LOAD: u8 = 0;
 pub const KIND_STORE: u8 = 1;
@@ -39,9 +39,9 @@ pub fn line(value: u32, state: &Cache) -> String {
         i.misses,
         d.hits,
         d.misses,
-        state.penalty,
-        state.start,
-        state.end,
+        state.miss_penalty,
+        state.ram_start,
+        state.ram_end,
         i.digest(),
         d.digest()
     )
@@ -101,6 +101,6 @@ impl Published {
 impl Replay for Published {
     fn step(&mut self, event: &Event) -> String {
         let value = self.value(event);
-        line(value, &Cache::of(&self.cache.borrow()))
+        line(value, &self.cache.borrow().state())
     }
 }

@@ -1,12 +1,9 @@
 //! The listing with the whole state after each event, for comparing what no listing shows.
 
-use crate::access::slots;
-use crate::cpu::InstructionMode;
-use crate::cpu_privilege::SystemSnapshot;
 use crate::digest::Digest;
 use crate::listing;
 use crate::machine::Machine;
-use crate::tags::Cache;
+use crate::state::{Cache, Controller, Privilege, Vm, REGIONS};
 
 /// Runs a script and prints it with its states.
 pub fn inspect(script: &[u8]) -> String {
@@ -15,14 +12,14 @@ pub fn inspect(script: &[u8]) -> String {
 
 /// The state in seven lines.
 pub fn state(machine: &Machine) -> String {
-    let sys = machine.sys.snapshot(&machine.reg);
+    let state = machine.state();
     [
-        system(machine, &sys),
-        regions(&sys),
-        tlb(machine),
-        controller(machine),
-        cache(machine),
-        words("reg", &machine.reg),
+        system(machine.sys.status(), &state.sys),
+        regions(&state.sys),
+        tlb(&state.sys.vm),
+        controller(&state.irqc),
+        cache(&state.cache),
+        words("reg", &state.sys.reg),
         words("mem", &[Digest::new().bytes(machine.bus.bytes()).value()]),
     ]
     .concat()
@@ -33,47 +30,34 @@ fn words(name: &str, words: &[u32]) -> String {
     format!("S {name}{digits}\n")
 }
 
-fn system(machine: &Machine, sys: &SystemSnapshot) -> String {
-    let [first, second, third] = other_bank(machine);
+/// The bank is R28 to R30 of the mode that is not current.
+fn system(status: u32, sys: &Privilege) -> String {
+    let [first, second, third] = sys.other_bank;
     format!(
-        "S sys {:08X} {:08X} {:08X} {first:08X} {second:08X} {third:08X} {:X} {:08X} {:08X} {}\n",
-        sys.status,
+        "S sys {status:08X} {:08X} {:08X} {first:08X} {second:08X} {third:08X} {:X} {:08X} {:08X} {}\n",
         sys.epc,
         sys.cause,
-        u8::from(sys.mmu.enabled),
-        sys.mmu.ptbr,
-        sys.mmu.vfault,
-        sys.mmu.next_victim
+        u8::from(sys.vm.enabled),
+        sys.vm.ptbr,
+        sys.vm.vfault,
+        sys.vm.next_victim
     )
 }
 
-/// R28 to R30 of the mode that is not current. They are private and shown only as the user's;
-/// in user mode a trap taken on a copy brings the supervisor's out.
-fn other_bank(machine: &Machine) -> [u32; 3] {
-    let (mut sys, mut reg) = (machine.sys, machine.reg);
-    if !sys.user {
-        return sys.snapshot(&reg).user_bank;
-    }
-    sys.enter_trap(&mut reg, 0, 0, InstructionMode::Normal);
-    [reg[28], reg[29], reg[30]]
-}
-
-fn regions(sys: &SystemSnapshot) -> String {
-    let text: String = sys
-        .regions
-        .iter()
-        .map(|region| {
-            format!(
-                " {:08X} {:08X} {:X}",
-                region.start, region.end, region.flags
-            )
-        })
-        .collect();
+fn regions(sys: &Privilege) -> String {
+    let region = |n: usize| {
+        format!(
+            " {:08X} {:08X} {:X}",
+            sys.starts[n], sys.ends[n], sys.flags[n]
+        )
+    };
+    let text: String = (0..REGIONS).map(region).collect();
     format!("S rgn{text}\n")
 }
 
-fn tlb(machine: &Machine) -> String {
-    let text: String = slots(&machine.sys)
+fn tlb(vm: &Vm) -> String {
+    let text: String = vm
+        .tlb
         .iter()
         .map(|slot| {
             let valid = u8::from(slot.valid);
@@ -86,19 +70,15 @@ fn tlb(machine: &Machine) -> String {
     format!("S tlb{text}\n")
 }
 
-fn controller(machine: &Machine) -> String {
-    let irqc = &machine.irqc;
+fn controller(irqc: &Controller) -> String {
     format!(
         "S irq {:04X} {:04X} {:04X}\n",
-        irqc.pending(),
-        irqc.enable_mask(),
-        machine.levels
+        irqc.pending, irqc.enable, irqc.source_level
     )
 }
 
-fn cache(machine: &Machine) -> String {
-    let state = Cache::of(&machine.cache);
-    let (i, d) = (&state.i, &state.d);
+fn cache(cache: &Cache) -> String {
+    let (i, d) = (&cache.i, &cache.d);
     format!(
         "S cac {:X} {:X} {:08X} {:08X} {:08X} {:08X} {:08X} {:08X} {:08X}\n",
         u8::from(i.enabled),
@@ -107,12 +87,11 @@ fn cache(machine: &Machine) -> String {
         i.misses,
         d.hits,
         d.misses,
-        state.penalty,
+        cache.miss_penalty,
         i.digest(),
         d.digest()
     )
 }
-
 #[cfg(test)]
 mod tests {
     use super::inspect;

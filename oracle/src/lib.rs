@@ -28,6 +28,8 @@ pub mod shims {
 }
 
 pub mod access;
+#[cfg(feature = "port")]
+pub mod both;
 pub mod bus;
 pub mod cache;
 pub mod digest;
@@ -38,8 +40,10 @@ pub mod irqc;
 pub mod listing;
 pub mod machine;
 pub mod mmu;
+#[cfg(feature = "port")]
+pub mod port;
 pub mod privilege;
 pub mod random;
 pub mod script;
+pub mod state;
 pub mod store;
-pub mod tags;

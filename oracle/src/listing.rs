@@ -15,7 +15,7 @@ pub fn listing(script: &[u8]) -> String {
 pub fn run(script: &[u8], after: After) -> String {
     let script = match Script::read(script) {
         Ok(script) => script,
-        Err(number) => return format!("refused {number}\n"),
+        Err(number) => return refused(number),
     };
     let mut machine = Machine::new(&script);
     let mut text = String::new();
@@ -24,16 +24,32 @@ pub fn run(script: &[u8], after: After) -> String {
         text += &line(index, &answer);
         text += &after(&machine);
     }
-    text + &format!("end {}\n", script.events.len())
+    text + &end(script.events.len())
 }
 
-fn line(index: usize, answer: &Answer) -> String {
-    let (letter, digits) = match answer.outcome {
+/// All that a refused script prints.
+pub fn refused(number: u32) -> String {
+    format!("refused {number}\n")
+}
+
+/// The last line of a run.
+pub fn end(events: usize) -> String {
+    format!("end {events}\n")
+}
+
+/// The letter and the digits of an event's line.
+pub fn shown(outcome: Outcome) -> (char, u32) {
+    match outcome {
         Outcome::Value(value) => ('V', value),
         Outcome::Exception(cause) => ('X', cause),
         Outcome::BusError => ('B', 0),
         Outcome::Refusal(number) => ('N', number),
-    };
+    }
+}
+
+/// An event's line.
+pub fn line(index: usize, answer: &Answer) -> String {
+    let (letter, digits) = shown(answer.outcome);
     format!(
         "{index} {letter} {digits:08X} {} {}\n",
         answer.stall, answer.reads

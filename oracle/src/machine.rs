@@ -9,6 +9,7 @@ use crate::cpu_privilege::{Access, SystemState};
 use crate::devices::irqc::irqc::IrqController;
 use crate::event::Event;
 use crate::script::Script;
+use crate::state;
 
 pub const KIND_LOAD: u8 = 0;
 pub const KIND_STORE: u8 = 1;
@@ -70,9 +71,6 @@ pub struct Machine {
     pub sys: SystemState,
     pub reg: [u32; 32],
     pub irqc: IrqController,
-    /// The controller keeps its levels private: this follows the rule that a level is always
-    /// remembered, so that a state can show them.
-    pub levels: u16,
     pub cache: L1Cache,
     pub bus: Bus,
 }
@@ -85,9 +83,17 @@ impl Machine {
             sys: SystemState::default(),
             reg: [0; 32],
             irqc: IrqController::new(),
-            levels: 0,
             cache,
             bus: Bus::new(script.base, &script.image),
+        }
+    }
+
+    /// All of it but the memory.
+    pub fn state(&self) -> state::Machine {
+        state::Machine {
+            sys: self.sys.state(&self.reg),
+            cache: self.cache.state(),
+            irqc: self.irqc.state(),
         }
     }
 
@@ -175,13 +181,8 @@ impl Machine {
     /// The published number is a byte; 16 and above do nothing, here also those that a byte
     /// cannot hold.
     fn set_source(&mut self, number: u16, level: bool) {
-        let Ok(number) = u8::try_from(number) else {
-            return;
-        };
-        self.irqc.set_source(number, level);
-        if number < 16 {
-            let bit = 1 << number;
-            self.levels = self.levels & !bit | u16::from(level) << number;
+        if let Ok(number) = u8::try_from(number) {
+            self.irqc.set_source(number, level);
         }
     }
 
@@ -208,7 +209,6 @@ impl Machine {
     fn reset(&mut self) {
         self.sys = SystemState::default();
         self.irqc.reset();
-        self.levels = 0;
         self.cache.reset();
     }
 }

@@ -19,6 +19,7 @@ The published SRC32 modules over a stand-in bus, as the reference for the port.
   oracle listing < SCRIPT     the listing of document 01
   oracle inspect < SCRIPT     the listing with the whole state after each event
   oracle script SEED          a generated script, good or damaged, on standard output
+  oracle seeds DIR            scripts for a fuzzer to start from, a file each
   oracle tally [SEED N]       what came of the stored scripts, or of N scripts from SEED on
   oracle --help               this text
 
@@ -38,6 +39,7 @@ fn main() -> ExitCode {
         ["listing"] => run(listing),
         ["inspect"] => run(inspect),
         ["script", seed] => number(seed).and_then(write_script),
+        ["seeds", folder] => write_seeds(Path::new(folder)),
         ["tally"] => {
             tally(generate::scripts::stored(store::MACHINE_SEED).into_iter());
             Ok(())
@@ -71,6 +73,20 @@ fn run(print: fn(&[u8]) -> String) -> Result<(), String> {
 fn write_script(seed: u64) -> Result<(), String> {
     write_out(&generate::scripts::any(seed))
 }
+
+/// The stored scripts, which are small, and some that are not.
+fn write_seeds(folder: &Path) -> Result<(), String> {
+    let stored = generate::scripts::stored(store::MACHINE_SEED);
+    let fresh = (0..SEEDS).map(generate::scripts::any);
+    for (index, script) in stored.into_iter().chain(fresh).enumerate() {
+        let file = folder.join(format!("seed-{index}"));
+        fs::write(&file, script).map_err(|error| format!("{}: {error}", file.display()))?;
+    }
+    Ok(())
+}
+
+/// Generated scripts among a fuzzer's seeds.
+const SEEDS: u64 = 150;
 
 fn write_out(bytes: &[u8]) -> Result<(), String> {
     io::stdout()

@@ -5,7 +5,6 @@ use oracle::cpu::InstructionMode;
 use oracle::cpu_cache::L1Cache;
 use oracle::cpu_privilege::{Access, DebugTranslation, Exception, SystemState};
 use oracle::devices::irqc::irqc::IrqController;
-use oracle::tags::Cache;
 
 fn written(number: u16, value: u32) -> Option<u32> {
     let (mut sys, mut reg) = (SystemState::default(), [0; 32]);
@@ -96,7 +95,7 @@ fn p11_external_write_of_length_0() {
     let dropped = |addr| {
         let mut cache = full();
         cache.external_write(addr, 0);
-        let state = Cache::of(&cache);
+        let state = cache.state();
         assert_eq!(state.i.tags, state.d.tags);
         let empty = |index: &usize| state.d.tags[*index] == u32::MAX;
         (0..256).filter(empty).collect::<Vec<_>>()

@@ -3,30 +3,9 @@
 use oracle::cache::{self, line};
 use oracle::event::{Event, Replay};
 use oracle::generate::cache::Generator;
-use oracle::tags;
+use oracle::state::Cache as L1Cache;
 
 use crate::compare::{compare, Pair};
-
-/// One bank, as the port lays it out.
-#[repr(C)]
-#[derive(Clone, Copy)]
-struct Bank {
-    tags: [u32; 256],
-    enabled: bool,
-    hits: u32,
-    misses: u32,
-}
-
-/// Both banks, the cacheable range and the penalty.
-#[repr(C)]
-#[derive(Clone, Copy)]
-pub struct L1Cache {
-    i: Bank,
-    d: Bank,
-    ram_start: u32,
-    ram_end: u32,
-    miss_penalty: u32,
-}
 
 /// What a load or fetch leaves, and its stall.
 #[repr(C)]
@@ -35,7 +14,6 @@ pub struct CacheAccess {
     pub stall: u32,
 }
 
-#[link(name = "bridge", kind = "static")]
 extern "C" {
     pub fn cache_new(ram_start: u32, ram_size: u32) -> L1Cache;
     pub fn cache_set_penalty(c: L1Cache, penalty: u32) -> L1Cache;
@@ -98,25 +76,6 @@ impl Port {
             }
         }
     }
-
-    fn state(&self) -> tags::Cache {
-        tags::Cache {
-            i: bank(&self.0.i),
-            d: bank(&self.0.d),
-            start: self.0.ram_start,
-            end: self.0.ram_end,
-            penalty: self.0.miss_penalty,
-        }
-    }
-}
-
-fn bank(bank: &Bank) -> tags::Bank {
-    tags::Bank {
-        tags: bank.tags.to_vec(),
-        enabled: bank.enabled,
-        hits: bank.hits,
-        misses: bank.misses,
-    }
 }
 
 impl Replay for Port {
@@ -125,7 +84,7 @@ impl Replay for Port {
             self.0 = self.changed(event);
             0
         });
-        line(value, &self.state())
+        line(value, &self.0)
     }
 }
 

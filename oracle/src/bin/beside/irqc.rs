@@ -23,7 +23,6 @@ struct IrqOutput {
     number: u8,
 }
 
-#[link(name = "bridge", kind = "static")]
 extern "C" {
     fn irqc_new() -> IrqController;
     fn irqc_reset(c: IrqController) -> IrqController;

@@ -5,6 +5,7 @@ mod cache;
 mod compare;
 mod irqc;
 mod mmu;
+mod scripts;
 mod speed;
 
 use std::env;
@@ -35,6 +36,7 @@ fn main() -> ExitCode {
         Some("irqc") => options(&arguments[1..]).and_then(|o| irqc::run(o.seed, o.count)),
         Some("cache") => options(&arguments[1..]).and_then(|o| cache::run(o.seed, o.count)),
         Some("mmu") => options(&arguments[1..]).and_then(|o| mmu::run(o.seed, o.count)),
+        Some("scripts") => options(&arguments[1..]).and_then(|o| scripts::run(o.seed, o.count)),
         Some("speed") => options(&arguments[1..]).and_then(|o| speed::run(o.count)),
         Some("--help" | "-h" | "help") => Ok(HELP.to_string()),
         Some(other) => Err(format!("unknown component: {other}\n\n{HELP}")),

@@ -49,7 +49,6 @@ struct MmuWalked {
     reads: u32,
 }
 
-#[link(name = "bridge", kind = "static")]
 extern "C" {
     fn mmu_new() -> Vm;
     fn mmu_flush(vm: Vm) -> Vm;

@@ -5,8 +5,9 @@ use std::hint::black_box;
 use std::time::Instant;
 
 use oracle::cpu_cache;
+use oracle::state::Cache;
 
-use crate::cache::{cache_load, cache_loads, cache_new, cache_set_penalty, L1Cache};
+use crate::cache::{cache_load, cache_loads, cache_new, cache_set_penalty};
 
 /// A range that holds every address of a pass.
 const SIZE: u32 = 0x8000_0000;
@@ -71,7 +72,7 @@ fn published(row: &Row, passes: u32) -> Timed {
     })
 }
 
-fn fresh() -> L1Cache {
+fn fresh() -> Cache {
     // SAFETY: the port's functions take and return plain values and are proved to return for all
     // of them. The same holds for the calls below.
     unsafe { cache_set_penalty(cache_new(0, SIZE), PENALTY) }

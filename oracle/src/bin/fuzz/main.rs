@@ -1,0 +1,46 @@
+//! The fuzzer's target: any bytes as a script on both sides. A difference ends the process, and the
+//! fuzzer keeps the bytes. `fuzz/run` builds and starts it.
+
+#![no_main]
+
+use oracle::both::{compare, Unwatched};
+use oracle::machine::KIND_EXTERNAL;
+use oracle::script::Script;
+
+/// The bytes that the external writes of one script may sweep: more take long and show nothing new.
+const MOST_SWEPT: u64 = 1 << 20;
+
+/// Tells the fuzzer to leave an input out of its corpus.
+const REJECTED: i32 = -1;
+
+/// # Safety
+///
+/// The fuzzer passes a buffer and its length.
+#[no_mangle]
+pub unsafe extern "C" fn LLVMFuzzerTestOneInput(data: *const u8, size: usize) -> i32 {
+    // SAFETY: by this function's own condition; an empty input may come without a buffer.
+    let script = match size {
+        0 => &[],
+        _ => unsafe { std::slice::from_raw_parts(data, size) },
+    };
+    if swept(script) > MOST_SWEPT {
+        return REJECTED;
+    }
+    if let Err(difference) = compare(script, &mut Unwatched) {
+        eprintln!("{difference}");
+        std::process::abort();
+    }
+    0
+}
+
+/// What the script's external writes sweep in all.
+fn swept(script: &[u8]) -> u64 {
+    let Ok(script) = Script::read(script) else {
+        return 0;
+    };
+    let lengths = script
+        .events
+        .iter()
+        .filter(|event| event.kind == KIND_EXTERNAL);
+    lengths.map(|event| u64::from(event.b)).sum()
+}

@@ -1,0 +1,108 @@
+//! A script on both sides: the port's listing beside the published one's, and after each event the
+//! whole state and all of memory.
+
+use std::fmt::Debug;
+
+use crate::event::Event;
+use crate::listing;
+use crate::machine::{Answer, Machine};
+use crate::port::machine::{self as port, Stepped};
+use crate::script::Script;
+use crate::state;
+
+/// What one event did on both sides alike.
+pub struct Seen<'a> {
+    pub event: &'a Event,
+    pub before: &'a state::Machine,
+    pub answer: &'a Answer,
+    pub after: &'a state::Machine,
+}
+
+/// Who is told what the runs do while they are compared.
+pub trait Watch {
+    fn script(&mut self, read: &Result<Script, u32>);
+    fn event(&mut self, seen: &Seen);
+}
+
+/// Nobody.
+pub struct Unwatched;
+
+impl Watch for Unwatched {
+    fn script(&mut self, _: &Result<Script, u32>) {}
+    fn event(&mut self, _: &Seen) {}
+}
+
+/// Compares a script, good or not: how many events agreed, or the first difference.
+pub fn compare(bytes: &[u8], watch: &mut impl Watch) -> Result<usize, String> {
+    let listed = port::listing(bytes);
+    let read = Script::read(bytes);
+    watch.script(&read);
+    match read {
+        Ok(script) => {
+            let text = step_both(&script, watch)?;
+            same("listing", &text.as_bytes(), &listed.as_slice())?;
+            Ok(script.events.len())
+        }
+        Err(number) => {
+            let text = listing::refused(number);
+            same("listing", &text.as_bytes(), &listed.as_slice())?;
+            Ok(0)
+        }
+    }
+}
+
+/// Steps both sides through a script; the published side's listing.
+fn step_both(script: &Script, watch: &mut impl Watch) -> Result<String, String> {
+    let mut published = Machine::new(script);
+    let mut port = port::Machine::new(script);
+    let mut before = published.state();
+    same("state at the start", &before, &port.state)?;
+    let mut text = String::new();
+    for (index, event) in script.events.iter().enumerate() {
+        let answer = published.step(event);
+        let after = published.state();
+        let stepped = port.step(event);
+        same_answer(&answer, &stepped)
+            .and_then(|()| same("state", &after, &stepped.machine))
+            .and_then(|()| same("memory", &published.bus.bytes(), &port.memory.as_slice()))
+            .map_err(|what| format!("event {index}, {event}: {what}"))?;
+        text += &listing::line(index, &answer);
+        watch.event(&Seen {
+            event,
+            before: &before,
+            answer: &answer,
+            after: &after,
+        });
+        before = after;
+    }
+    Ok(text + &listing::end(script.events.len()))
+}
+
+fn same_answer(published: &Answer, port: &Stepped) -> Result<(), String> {
+    let (letter, digits) = listing::shown(published.outcome);
+    same(
+        "line",
+        &(letter, digits, u64::from(published.stall), published.reads),
+        &(char::from(port.letter), port.digits, port.stall, port.reads),
+    )
+}
+
+/// Two values of one kind; if they differ, the places at which they do.
+fn same<T: PartialEq + Debug>(name: &str, published: &T, port: &T) -> Result<(), String> {
+    if published == port {
+        return Ok(());
+    }
+    let (published, port) = (format!("{published:#?}"), format!("{port:#?}"));
+    let places: Vec<String> = published
+        .lines()
+        .zip(port.lines())
+        .enumerate()
+        .filter(|(_, (one, other))| one != other)
+        .map(|(line, (one, other))| format!("\n  {line}: published {one}, port {other}"))
+        .take(SHOWN)
+        .collect();
+    Err(format!("the {name} differs{}", places.concat()))
+}
+
+/// So many places of a difference are shown.
+const SHOWN: usize = 8;

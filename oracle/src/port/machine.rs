@@ -1,0 +1,81 @@
+//! The port's machine: a script's listing, and one event's step.
+
+use crate::event::Event;
+use crate::script::Script;
+use crate::state;
+
+/// No listing is longer.
+pub const LONGEST_LISTING: usize = 131_072;
+
+/// What an event's step leaves, and its line.
+#[repr(C)]
+pub struct Stepped {
+    pub machine: state::Machine,
+    pub letter: u8,
+    pub digits: u32,
+    pub stall: u64,
+    pub reads: u32,
+}
+
+extern "C" {
+    /// A lent slice crosses as its pointer and its length.
+    fn machine_list(script: *const u8, length: usize, out: *mut u8, room: usize) -> usize;
+    fn machine_new(base: u32, len: u32, miss_penalty: u32) -> state::Machine;
+    fn machine_step(
+        machine: state::Machine,
+        mem: *mut u8,
+        length: usize,
+        base: u32,
+        kind: u8,
+        size: u8,
+        aux: u16,
+        a: u32,
+        b: u32,
+    ) -> Stepped;
+}
+
+/// The listing of any bytes.
+pub fn listing(script: &[u8]) -> Vec<u8> {
+    let mut out = vec![0; LONGEST_LISTING];
+    // SAFETY: see the head of `port`; the buffer is lent for the call.
+    let length =
+        unsafe { machine_list(script.as_ptr(), script.len(), out.as_mut_ptr(), out.len()) };
+    out.truncate(length);
+    out
+}
+
+/// The port's machine and the memory that it is lent.
+pub struct Machine {
+    pub state: state::Machine,
+    pub memory: Vec<u8>,
+    base: u32,
+}
+
+impl Machine {
+    pub fn new(script: &Script) -> Self {
+        let length = script.image.len() as u32;
+        Self {
+            // SAFETY: see the head of `port`.
+            state: unsafe { machine_new(script.base, length, script.last) },
+            memory: script.image.clone(),
+            base: script.base,
+        }
+    }
+
+    /// Steps and says what was left; `state` keeps it too.
+    pub fn step(&mut self, event: &Event) -> Stepped {
+        let (memory, length) = (self.memory.as_mut_ptr(), self.memory.len());
+        let Event {
+            kind,
+            size,
+            aux,
+            a,
+            b,
+        } = *event;
+        // SAFETY: see the head of `port`; the memory is lent for the call.
+        let stepped =
+            unsafe { machine_step(self.state, memory, length, self.base, kind, size, aux, a, b) };
+        self.state = stepped.machine;
+        stepped
+    }
+}
