@@ -3,34 +3,11 @@
 
 use std::fmt::Debug;
 
-use crate::event::Event;
 use crate::listing;
 use crate::machine::{Answer, Machine};
 use crate::port::machine::{self as port, Stepped};
 use crate::script::Script;
-use crate::state;
-
-/// What one event did on both sides alike.
-pub struct Seen<'a> {
-    pub event: &'a Event,
-    pub before: &'a state::Machine,
-    pub answer: &'a Answer,
-    pub after: &'a state::Machine,
-}
-
-/// Who is told what the runs do while they are compared.
-pub trait Watch {
-    fn script(&mut self, read: &Result<Script, u32>);
-    fn event(&mut self, seen: &Seen);
-}
-
-/// Nobody.
-pub struct Unwatched;
-
-impl Watch for Unwatched {
-    fn script(&mut self, _: &Result<Script, u32>) {}
-    fn event(&mut self, _: &Seen) {}
-}
+use crate::watch::{Seen, Watch};
 
 /// Compares a script, good or not: how many events agreed, or the first difference.
 pub fn compare(bytes: &[u8], watch: &mut impl Watch) -> Result<usize, String> {

@@ -45,5 +45,7 @@ pub mod port;
 pub mod privilege;
 pub mod random;
 pub mod script;
+pub mod shrink;
 pub mod state;
 pub mod store;
+pub mod watch;

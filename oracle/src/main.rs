@@ -10,6 +10,7 @@ use oracle::generate::{self, tally::Tally};
 use oracle::inspect::inspect;
 use oracle::listing::listing;
 use oracle::store::{self, Set, SETS};
+use oracle::watch;
 
 const HELP: &str = "\
 The published SRC32 modules over a stand-in bus, as the reference for the port.
@@ -107,7 +108,7 @@ fn tally_from(seed: &str, count: &str) -> Result<(), String> {
 
 fn tally(scripts: impl Iterator<Item = Vec<u8>>) {
     let mut tally = Tally::default();
-    scripts.for_each(|script| tally.add(&script));
+    scripts.for_each(|script| watch::run(&script, &mut tally));
     print!("{}", tally.text());
 }
 

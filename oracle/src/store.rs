@@ -100,8 +100,8 @@ fn privilege_replay() -> Answers {
     }
 }
 
-/// The seed of the scripts in `machine_replay`, of which the tally can be asked for.
-pub const MACHINE_SEED: u64 = 0x3AC4_0005;
+/// The seed of the scripts in `machine_replay`: the tally says that they reach every outcome.
+pub const MACHINE_SEED: u64 = 0x3AC4_0558;
 
 fn machine_replay() -> Answers {
     let scripts = generate::scripts::stored(MACHINE_SEED);

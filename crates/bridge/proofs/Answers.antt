@@ -1,7 +1,7 @@
--- The MMU's answers as numbers, case by case. Assumes nothing.
+-- The MMU's and the debugger's answers as numbers, case by case. Assumes nothing.
 use Prim.Native.Nat.{ℕ}
 use mathlib.Core.Path.{_≡_}
-use mathlib.Core.Bool.{true, false}
+use mathlib.Core.Bool.{Bool, true, false}
 use mathlib.Core.List.{List}
 use Rattle.memory.specs.Memory.{Memory}
 use Rattle.mmu.specs.Exception.{causeOf}
@@ -18,6 +18,13 @@ use Rattle.mmu.specs.declared.vm.Vm.{Vm}
 use Rattle.mmu.specs.declared.check.Verdict.{Verdict}
 use Rattle.mmu.specs.declared.check.Verdict.the-variants.{Allowed, Denied}
 use Rattle.mmu.specs.declared.check.Checked.{Checked}
+use Rattle.common.specs.Refusal.{refusalNumber}
+use Rattle.common.specs.declared.Refusal.{Refusal}
+use Rattle.privilege.specs.declared.debug.DebugTranslation.{DebugTranslation}
+use Rattle.privilege.specs.declared.debug.DebugTranslation.the-variants as debug
+use Rattle.privilege.specs.declared.debug.TlbFlags.{TlbFlags}
+use Rattle.bridge.specs.Privilege.{unmapped, mappedNumbers, translatedNumbers}
+use Rattle.bridge.specs.declared.privilege_calls.PrivilegeTranslated.{PrivilegeTranslated}
 use Rattle.bridge.specs.Mmu.{causeNumber, addressOf, faultAddress, checkedNumbers, slotNumber, walkedBy, walkedNumbers}
 use Rattle.bridge.specs.declared.mmu_calls.MmuChecked.{MmuChecked}
 use Rattle.bridge.specs.declared.mmu_calls.MmuWalked.{MmuWalked}
@@ -71,3 +78,22 @@ module _ (r w : WalkAnswer) (p : r ≡ w) where
       → _≡_ {A = MmuWalked} (record { entry = noEntry; «bus_error» = true; reads = r .reads }) (walkedNumbers w)
   unfolding walkedBy
   walked-bus-error q = rw (← p, q)
+
+-- a debugger's translation
+module _ (t : DebugTranslation) (r : PrivilegeTranslated) where
+  pub translated-mapped : (physical : ℕ) (flags : TlbFlags) (inTlb : Bool) → t ≡ debug.Mapped physical flags inTlb
+      → r ≡ mappedNumbers physical flags inTlb → r ≡ translatedNumbers t
+  unfolding translatedNumbers
+  translated-mapped physical flags inTlb p q = rw (q, p)
+
+  pub translated-unmapped : t ≡ debug.Unmapped → r ≡ unmapped 0 false → r ≡ translatedNumbers t
+  unfolding translatedNumbers
+  translated-unmapped p q = rw (q, p)
+
+  pub translated-bus-error : t ≡ debug.BusError → r ≡ unmapped 0 true → r ≡ translatedNumbers t
+  unfolding translatedNumbers
+  translated-bus-error p q = rw (q, p)
+
+  pub translated-refused : (e : Refusal) (n : ℕ) → t ≡ debug.Refused e → n ≡ refusalNumber e → r ≡ unmapped n false → r ≡ translatedNumbers t
+  unfolding translatedNumbers
+  translated-refused e n p m q = rw (q, m, p)

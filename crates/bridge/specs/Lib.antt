@@ -1,4 +1,5 @@
 pub mod Cache
+pub mod Exception
 pub mod Machine
 pub mod Mmu
 pub mod Privilege

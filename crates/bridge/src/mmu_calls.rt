@@ -34,7 +34,7 @@ pub struct MmuWalked {
 }
 
 // 0 reads, 1 writes, any other fetches.
-fn access_of(number: u32) -> Access
+pub fn access_of(number: u32) -> Access
     ensures { λ r. ⌜ r ≡ accessOf number ⌝ }
 {
     match number {

@@ -1,9 +1,17 @@
 // The privilege state and R0 to R31, under C names. An enum does not cross into C, nor does an array of structs from
 // another crate: the state crosses as a struct of its own.
 ghost use mathlib.Core.Path.{_≡_};
+ghost use Rattle.memory.specs.Memory.{lent};
+ghost use Rattle.privilege.specs.Access.{allowsOf};
+ghost use Rattle.privilege.specs.Debug.{debugTranslated, slotView};
 ghost use Rattle.privilege.specs.State.{isShort};
-ghost use Rattle.bridge.specs.Privilege.{regionsOf, startsOf, endsOf, flagsOf, stateOf, stateNumbers};
+ghost use Rattle.bridge.specs.Mmu.{accessOf};
+ghost use Rattle.bridge.specs.Privilege.{regionsOf, startsOf, endsOf, flagsOf, stateOf, stateNumbers, unmapped, mappedNumbers, translatedNumbers, viewNumbers};
+use crate::mmu_calls::access_of;
 use mmu::vm::Vm;
+use privilege::debug::DebugTranslation;
+use privilege::debug::TlbEntryView;
+use privilege::debug::TlbFlags;
 use privilege::region::Region;
 use privilege::state::InstructionMode;
 use privilege::state::SystemState;
@@ -174,4 +182,120 @@ pub fn state_numbers(s: SystemState, reg: [u32; 32]) -> PrivilegeState
         vm,
         reg,
     }
+}
+
+// A debugger's translation: the numbers of a mapped address, or which of the others it is. A refusal is its number.
+#[repr(C)]
+pub struct PrivilegeTranslated {
+    pub refusal: u32,
+    pub bus_error: bool,
+    pub mapped: bool,
+    pub in_tlb: bool,
+    pub read: bool,
+    pub write: bool,
+    pub execute: bool,
+    pub user: bool,
+    pub physical: u32,
+}
+
+// One slot's view.
+#[repr(C)]
+pub struct PrivilegeSlot {
+    pub index: usize,
+    pub valid: bool,
+    pub virtual_page: u32,
+    pub physical_page: u32,
+    pub read: bool,
+    pub write: bool,
+    pub execute: bool,
+    pub user: bool,
+}
+
+fn unmapped_numbers(refusal: u32, bus_error: bool) -> PrivilegeTranslated
+    ensures { λ r. ⌜ r ≡ unmapped refusal «bus_error» ⌝ }
+{
+    PrivilegeTranslated {
+        refusal,
+        bus_error,
+        mapped: false,
+        in_tlb: false,
+        read: false,
+        write: false,
+        execute: false,
+        user: false,
+        physical: 0,
+    }
+}
+
+fn mapped_numbers(physical: u32, flags: TlbFlags, in_tlb: bool) -> PrivilegeTranslated
+    ensures { λ r. ⌜ r ≡ mappedNumbers physical flags «in_tlb» ⌝ }
+{
+    PrivilegeTranslated {
+        refusal: 0,
+        bus_error: false,
+        mapped: true,
+        in_tlb,
+        read: flags.read,
+        write: flags.write,
+        execute: flags.execute,
+        user: flags.user,
+        physical,
+    }
+}
+
+fn translated_numbers(t: DebugTranslation) -> PrivilegeTranslated
+    ensures { λ r. ⌜ r ≡ translatedNumbers t ⌝ }
+{
+    match t {
+        DebugTranslation::Mapped {
+            physical,
+            flags,
+            in_tlb,
+        } => mapped_numbers(physical, flags, in_tlb),
+        DebugTranslation::Unmapped => unmapped_numbers(0, false),
+        DebugTranslation::BusError => unmapped_numbers(0, true),
+        DebugTranslation::Refused(r) => unmapped_numbers(r.number(), false),
+    }
+}
+
+fn view_numbers(v: TlbEntryView) -> PrivilegeSlot
+    ensures { λ r. ⌜ r ≡ viewNumbers v ⌝ }
+{
+    let flags = v.flags;
+    PrivilegeSlot {
+        index: v.index,
+        valid: v.valid,
+        virtual_page: v.virtual_page,
+        physical_page: v.physical_page,
+        read: flags.read,
+        write: flags.write,
+        execute: flags.execute,
+        user: flags.user,
+    }
+}
+
+#[no_mangle]
+pub extern "C" fn privilege_allows(p: PrivilegeState, addr: u32, len: u32, access: u32) -> bool
+    ensures { λ r. ⌜ r ≡ allowsOf (stateOf p) addr len (accessOf access) ⌝ }
+{
+    state_of(p).allows(addr, len, access_of(access))
+}
+
+#[no_mangle]
+pub extern "C" fn privilege_debug_translate(
+    p: PrivilegeState,
+    mem: &[u8],
+    base: u32,
+    va: u32,
+) -> PrivilegeTranslated
+    ensures { λ r. ⌜ r ≡ translatedNumbers (debugTranslated (lent base (now (mem .entry))) (stateOf p) va) ⌝ }
+{
+    translated_numbers(state_of(p).debug_translate(mem, base, va))
+}
+
+#[no_mangle]
+pub extern "C" fn privilege_tlb_entry(p: PrivilegeState, index: usize) -> PrivilegeSlot
+    ensures { λ r. ⌜ r ≡ viewNumbers (slotView (stateOf p .vm) index) ⌝ }
+{
+    view_numbers(state_of(p).tlb_entry(index))
 }

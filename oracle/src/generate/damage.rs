@@ -22,8 +22,11 @@ pub fn rearranged(script: &Script, random: &mut Random) -> Vec<u8> {
     moved
 }
 
-/// The script's bytes with one thing wrong.
+/// The script's bytes with one thing wrong. Where nothing is left there is nothing to damage.
 pub fn damaged(mut bytes: Vec<u8>, random: &mut Random) -> Vec<u8> {
+    if bytes.is_empty() {
+        return bytes;
+    }
     match random.below(6) {
         0 => bytes.truncate(random.below(bytes.len() as u32) as usize),
         1 => bytes.truncate(random.below(HEADER as u32 + 2) as usize),

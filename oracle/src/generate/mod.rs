@@ -7,6 +7,7 @@ pub mod cases;
 pub mod damage;
 pub mod irqc;
 pub mod mmu;
+pub mod outcomes;
 pub mod privilege;
 pub mod run;
 pub mod scripts;

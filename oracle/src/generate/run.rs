@@ -161,6 +161,20 @@ impl Run {
         self.access(KIND_LOAD, first * PAGE, 0);
     }
 
+    /// An access goes over the end of a level-2 table, and the next level-1 word leads nowhere.
+    pub fn table_end(&mut self) {
+        let (root, table) = self.own_table();
+        let frame = self.layout.frame(self.random.below(self.layout.pages));
+        self.access(KIND_STORE, table + 4 * 1_023, frame | 0x1F);
+        let faults = [0, table, table | 0x41, table | 0x81, table | 3, 0xFFFF_F001];
+        let word = self.random.pick(&faults);
+        self.access(KIND_STORE, root + 4, word);
+        self.enter_through(root);
+        let kind = self.random.pick(&[KIND_LOAD, KIND_STORE, KIND_FETCH]);
+        let (value, back) = (self.random.word(), self.random.below(3));
+        self.access(kind, 0x3F_FFFF - back, value);
+    }
+
     /// An address to access: through the tables, inside the map, or at an end of something.
     pub fn address(&mut self, translate: bool) -> u32 {
         if translate && self.random.chance(85) {

@@ -13,7 +13,7 @@ use crate::machine::{
     KIND_STORE, KIND_TRAP, KIND_WRITE,
 };
 use crate::random::Random;
-use crate::script::{Script, PAGE, RESERVED};
+use crate::script::{Script, MOST_EVENTS, PAGE, RESERVED};
 
 /// Any script: one with a seed of its own, good, rearranged or damaged.
 pub fn any(seed: u64) -> Vec<u8> {
@@ -26,6 +26,62 @@ pub fn any(seed: u64) -> Vec<u8> {
         1 | 2 => damaged(script.write(), &mut random),
         _ => script.write(),
     }
+}
+
+/// A long script, good in any case. Of the system register numbers it asks for a block that its seed
+/// chooses: `BLOCKS` seeds in a row ask for all of them.
+pub fn long(seed: u64) -> Vec<u8> {
+    let mut random = Random::new(seed);
+    let pages = random.below(9);
+    let count = 1_000 + random.below(850) as usize;
+    let mut script = script(Random::new(random.word64()), pages, count);
+    let at = random.below(script.events.len() as u32) as usize;
+    let block = register_block((seed % BLOCKS) as u16, &mut random);
+    script.events.splice(at..at, block);
+    script.events.truncate(MOST_EVENTS as usize);
+    match random.below(10) {
+        0 => rearranged(&script, &mut random),
+        _ => script.write(),
+    }
+}
+
+/// Blocks of system register numbers.
+pub const BLOCKS: u64 = 65_536 / BLOCK as u64;
+const BLOCK: u16 = 32;
+
+/// Each number of a block, written and read.
+fn register_block(number: u16, random: &mut Random) -> Vec<Event> {
+    let numbers = (0..BLOCK).map(|offset| number * BLOCK + offset);
+    let event = |kind, aux, a| Event {
+        kind,
+        aux,
+        a,
+        ..Event::default()
+    };
+    numbers
+        .flat_map(|aux| {
+            [
+                event(KIND_WRITE, aux, random.word()),
+                event(KIND_READ, aux, 0),
+            ]
+        })
+        .collect()
+}
+
+/// A script with one to three things wrong. Some damage leaves it good.
+pub fn broken(seed: u64) -> Vec<u8> {
+    let mut random = Random::new(seed);
+    let pages = random.below(9);
+    let count = random.pick(&[0, 1, 20, 100, 400, 1_900]);
+    let script = script(Random::new(random.word64()), pages, count);
+    let mut bytes = match random.below(4) {
+        0 => rearranged(&script, &mut random),
+        _ => script.write(),
+    };
+    for _ in 0..1 + random.below(3) {
+        bytes = damaged(bytes, &mut random);
+    }
+    bytes
 }
 
 /// The scripts of the stored set: the fixed cases, runs over images of few pages, which keep the
@@ -61,6 +117,9 @@ pub fn script(random: Random, pages: u32, count: usize) -> Script {
     while run.events.len() < count {
         if pages > 0 && run.random.chance(15) {
             run.stolen_slot();
+        }
+        if pages > 0 && run.random.chance(8) {
+            run.table_end();
         }
         if run.random.chance(10) {
             source_edges(&mut run);

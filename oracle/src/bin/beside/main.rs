@@ -9,22 +9,30 @@ mod scripts;
 mod speed;
 
 use std::env;
+use std::path::Path;
 use std::process::ExitCode;
+
+use scripts::Sort;
 
 const HELP: &str = "\
 The published SRC32 modules beside the port, in one process.
 
-  beside irqc [--seed S] [--count N]     the interrupt controller
-  beside cache [--seed S] [--count N]    the L1 tag cache
-  beside mmu [--seed S] [--count N]      TLB, walk and page check
-  beside speed [--count N]               nanoseconds a load of the cache takes
-  beside --help                          this text
+  beside scripts [--seed S] [--count N]    long scripts: listings, and states after each event
+  beside damaged [--seed S] [--count N]    scripts with something wrong
+  beside folder DIR                        the scripts in a folder, a file each
+  beside irqc [--seed S] [--count N]       the interrupt controller
+  beside cache [--seed S] [--count N]      the L1 tag cache
+  beside mmu [--seed S] [--count N]        TLB, walk and page check
+  beside speed [--count N]                 nanoseconds a load of the cache takes
+  beside --help                            this text
 
-Seed (1) and count (1000000) are decimal. Prints how many operations agreed, or the first
-difference and the operations since the last reset; the status is then 1.
+Seed (1) and count (scripts 1000, operations 1000000) are decimal. Prints how many scripts or
+operations agreed, or the first difference, and for a script writes the smallest one that it can find
+to different-SEED.script; the status is then 1. The outcomes of scripts are counted; where one is rare
+the status is 1 too.
 ";
 
-/// How a run is chosen: the seed and the number of operations.
+/// How a run is chosen: the seed and the number of scripts or operations.
 struct Options {
     seed: u64,
     count: u64,
@@ -32,14 +40,8 @@ struct Options {
 
 fn main() -> ExitCode {
     let arguments: Vec<String> = env::args().skip(1).collect();
-    let done = match arguments.first().map(String::as_str) {
-        Some("irqc") => options(&arguments[1..]).and_then(|o| irqc::run(o.seed, o.count)),
-        Some("cache") => options(&arguments[1..]).and_then(|o| cache::run(o.seed, o.count)),
-        Some("mmu") => options(&arguments[1..]).and_then(|o| mmu::run(o.seed, o.count)),
-        Some("scripts") => options(&arguments[1..]).and_then(|o| scripts::run(o.seed, o.count)),
-        Some("speed") => options(&arguments[1..]).and_then(|o| speed::run(o.count)),
-        Some("--help" | "-h" | "help") => Ok(HELP.to_string()),
-        Some(other) => Err(format!("unknown component: {other}\n\n{HELP}")),
+    let done = match arguments.split_first() {
+        Some((name, rest)) => run(name, rest),
         None => Err(format!("a component is missing\n\n{HELP}")),
     };
     match done {
@@ -54,11 +56,25 @@ fn main() -> ExitCode {
     }
 }
 
-fn options(arguments: &[String]) -> Result<Options, String> {
-    let mut options = Options {
-        seed: 1,
-        count: 1_000_000,
-    };
+fn run(name: &str, rest: &[String]) -> Result<String, String> {
+    let operations = || options(rest, 1_000_000);
+    let wanted = || options(rest, 1_000);
+    match (name, rest) {
+        ("scripts", _) => wanted().and_then(|o| scripts::run(Sort::Long, o.seed, o.count)),
+        ("damaged", _) => wanted().and_then(|o| scripts::run(Sort::Damaged, o.seed, o.count)),
+        ("folder", [place]) => scripts::folder(Path::new(place)),
+        ("irqc", _) => operations().and_then(|o| irqc::run(o.seed, o.count)),
+        ("cache", _) => operations().and_then(|o| cache::run(o.seed, o.count)),
+        ("mmu", _) => operations().and_then(|o| mmu::run(o.seed, o.count)),
+        ("speed", _) => operations().and_then(|o| speed::run(o.count)),
+        ("--help" | "-h" | "help", _) => Ok(HELP.to_string()),
+        _ => Err(format!("unknown component: {name}\n\n{HELP}")),
+    }
+}
+
+/// The options, and how many where they do not say.
+fn options(arguments: &[String], count: u64) -> Result<Options, String> {
+    let mut options = Options { seed: 1, count };
     for pair in arguments.chunks(2) {
         let [name, value] = pair else {
             return Err(format!("{} wants a number", pair[0]));

@@ -3,9 +3,10 @@
 
 #![no_main]
 
-use oracle::both::{compare, Unwatched};
+use oracle::both::compare;
 use oracle::machine::KIND_EXTERNAL;
 use oracle::script::Script;
+use oracle::watch::Unwatched;
 
 /// The bytes that the external writes of one script may sweep: more take long and show nothing new.
 const MOST_SWEPT: u64 = 1 << 20;
