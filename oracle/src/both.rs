@@ -3,10 +3,12 @@
 
 use std::fmt::Debug;
 
+use crate::event::Event;
 use crate::listing;
 use crate::machine::{Answer, Machine};
 use crate::port::machine::{self as port, Stepped};
 use crate::script::Script;
+use crate::state;
 use crate::watch::{Seen, Watch};
 
 /// Compares a script, good or not: how many events agreed, or the first difference.
@@ -36,12 +38,7 @@ fn step_both(script: &Script, watch: &mut impl Watch) -> Result<String, String> 
     same("state at the start", &before, &port.state)?;
     let mut text = String::new();
     for (index, event) in script.events.iter().enumerate() {
-        let answer = published.step(event);
-        let after = published.state();
-        let stepped = port.step(event);
-        same_answer(&answer, &stepped)
-            .and_then(|()| same("state", &after, &stepped.machine))
-            .and_then(|()| same("memory", &published.bus.bytes(), &port.memory.as_slice()))
+        let (answer, after) = step(&mut published, &mut port, event)
             .map_err(|what| format!("event {index}, {event}: {what}"))?;
         text += &listing::line(index, &answer);
         watch.event(&Seen {
@@ -55,6 +52,21 @@ fn step_both(script: &Script, watch: &mut impl Watch) -> Result<String, String> 
     Ok(text + &listing::end(script.events.len()))
 }
 
+/// One event on both sides: the answer and the state that both have, or how they differ.
+pub fn step(
+    published: &mut Machine,
+    port: &mut port::Machine,
+    event: &Event,
+) -> Result<(Answer, state::Machine), String> {
+    let answer = published.step(event);
+    let after = published.state();
+    let stepped = port.step(event);
+    same_answer(&answer, &stepped)?;
+    same("state", &after, &stepped.machine)?;
+    same("memory", &published.bus.bytes(), &port.memory.as_slice())?;
+    Ok((answer, after))
+}
+
 fn same_answer(published: &Answer, port: &Stepped) -> Result<(), String> {
     let (letter, digits) = listing::shown(published.outcome);
     same(
@@ -65,7 +77,7 @@ fn same_answer(published: &Answer, port: &Stepped) -> Result<(), String> {
 }
 
 /// Two values of one kind; if they differ, the places at which they do.
-fn same<T: PartialEq + Debug>(name: &str, published: &T, port: &T) -> Result<(), String> {
+pub fn same<T: PartialEq + Debug>(name: &str, published: &T, port: &T) -> Result<(), String> {
     if published == port {
         return Ok(());
     }

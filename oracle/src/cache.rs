@@ -62,6 +62,16 @@ impl Default for Published {
 }
 
 impl Published {
+    pub fn with_state(state: &Cache) -> Self {
+        let published = Self::default();
+        *published.cache.borrow_mut() = L1Cache::with_state(state);
+        published
+    }
+
+    pub fn state(&self) -> Cache {
+        self.cache.borrow().state()
+    }
+
     fn registers(&mut self) -> &mut dyn Device {
         self.bus
             .device(CACHE_REG_BASE)
@@ -101,6 +111,6 @@ impl Published {
 impl Replay for Published {
     fn step(&mut self, event: &Event) -> String {
         let value = self.value(event);
-        line(value, &self.cache.borrow().state())
+        line(value, &self.state())
     }
 }

@@ -7,6 +7,7 @@
 use crate::bus::Device;
 use crate::devices::irqc::irqc::IrqController;
 use crate::event::{Event, Replay};
+use crate::state::Controller;
 
 pub const KIND_SOURCE: u8 = 0;
 pub const KIND_LEVELS: u8 = 1;
@@ -49,6 +50,14 @@ impl View {
 pub struct Published(IrqController);
 
 impl Published {
+    pub fn with_state(state: &Controller) -> Self {
+        Self(IrqController::with_state(state))
+    }
+
+    pub fn state(&self) -> Controller {
+        self.0.state()
+    }
+
     fn apply(&mut self, event: &Event) {
         match event.kind {
             KIND_SOURCE => {

@@ -88,6 +88,17 @@ impl Machine {
         }
     }
 
+    /// A machine in any state, over a memory.
+    pub fn with_state(state: &state::Machine, base: u32, memory: &[u8]) -> Self {
+        Self {
+            sys: SystemState::with_state(&state.sys),
+            reg: state.sys.reg,
+            irqc: IrqController::with_state(&state.irqc),
+            cache: L1Cache::with_state(&state.cache),
+            bus: Bus::new(base, memory),
+        }
+    }
+
     /// All of it but the memory.
     pub fn state(&self) -> state::Machine {
         state::Machine {

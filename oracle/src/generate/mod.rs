@@ -11,6 +11,7 @@ pub mod outcomes;
 pub mod privilege;
 pub mod run;
 pub mod scripts;
+pub mod states;
 pub mod system;
 pub mod tables;
 pub mod tally;

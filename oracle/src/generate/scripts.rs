@@ -180,7 +180,8 @@ fn phase(run: &mut Run, long_sweeps: &mut u32) {
     }
 }
 
-fn event(run: &mut Run, translate: bool, long_sweeps: &mut u32) -> Event {
+/// One event of any kind, with addresses through the tables if `translate`.
+pub fn event(run: &mut Run, translate: bool, long_sweeps: &mut u32) -> Event {
     let kind = kind(&mut run.random);
     let mut event = run.noise(kind);
     match kind {

@@ -62,6 +62,15 @@ impl Machine {
         }
     }
 
+    /// A machine in any state, over a memory.
+    pub fn with_state(state: &state::Machine, base: u32, memory: &[u8]) -> Self {
+        Self {
+            state: *state,
+            memory: memory.to_vec(),
+            base,
+        }
+    }
+
     /// Steps and says what was left; `state` keeps it too.
     pub fn step(&mut self, event: &Event) -> Stepped {
         let (memory, length) = (self.memory.as_mut_ptr(), self.memory.len());

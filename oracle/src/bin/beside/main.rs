@@ -7,6 +7,7 @@ mod irqc;
 mod mmu;
 mod scripts;
 mod speed;
+mod states;
 
 use std::env;
 use std::path::Path;
@@ -23,6 +24,7 @@ The published SRC32 modules beside the port, in one process.
   beside irqc [--seed S] [--count N]       the interrupt controller
   beside cache [--seed S] [--count N]      the L1 tag cache
   beside mmu [--seed S] [--count N]        TLB, walk and page check
+  beside states [--seed S] [--count N]     one operation on a state that no script makes
   beside speed [--count N]                 nanoseconds a load of the cache takes
   beside --help                            this text
 
@@ -66,6 +68,7 @@ fn run(name: &str, rest: &[String]) -> Result<String, String> {
         ("irqc", _) => operations().and_then(|o| irqc::run(o.seed, o.count)),
         ("cache", _) => operations().and_then(|o| cache::run(o.seed, o.count)),
         ("mmu", _) => operations().and_then(|o| mmu::run(o.seed, o.count)),
+        ("states", _) => operations().and_then(|o| states::run(o.seed, o.count)),
         ("speed", _) => operations().and_then(|o| speed::run(o.count)),
         ("--help" | "-h" | "help", _) => Ok(HELP.to_string()),
         _ => Err(format!("unknown component: {name}\n\n{HELP}")),

@@ -5,9 +5,8 @@ use std::hint::black_box;
 use std::time::Instant;
 
 use oracle::cpu_cache;
+use oracle::port::cache::{load, loads, with_penalty};
 use oracle::state::Cache;
-
-use crate::cache::{cache_load, cache_loads, cache_new, cache_set_penalty};
 
 /// A range that holds every address of a pass.
 const SIZE: u32 = 0x8000_0000;
@@ -73,9 +72,7 @@ fn published(row: &Row, passes: u32) -> Timed {
 }
 
 fn fresh() -> Cache {
-    // SAFETY: the port's functions take and return plain values and are proved to return for all
-    // of them. The same holds for the calls below.
-    unsafe { cache_set_penalty(cache_new(0, SIZE), PENALTY) }
+    with_penalty(0, SIZE, PENALTY)
 }
 
 /// The cache goes over the border and back at each load.
@@ -84,8 +81,7 @@ fn by_value(row: &Row, passes: u32) -> Timed {
     timed(passes, || {
         let (mut pa, mut stalls) = (0u32, 0u32);
         for _ in 0..PASS {
-            // SAFETY: plain values, as in `fresh`.
-            let access = unsafe { cache_load(cache, pa) };
+            let access = load(cache, pa);
             cache = access.cache;
             stalls = stalls.wrapping_add(access.stall);
             pa = pa.wrapping_add(row.step);
@@ -98,8 +94,7 @@ fn by_value(row: &Row, passes: u32) -> Timed {
 fn in_port(row: &Row, passes: u32) -> Timed {
     let mut cache = fresh();
     timed(passes, || {
-        // SAFETY: plain values, as in `fresh`.
-        let access = unsafe { cache_loads(cache, 0, row.step, PASS) };
+        let access = loads(cache, 0, row.step, PASS);
         cache = access.cache;
         access.stall
     })
