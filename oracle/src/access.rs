@@ -4,6 +4,7 @@
 
 use crate::bus::Bus;
 use crate::cpu_privilege::{Access, Exception, SystemState, TlbFlags};
+use crate::state::{TlbEntry, SLOTS};
 
 /// Refusal numbers of document 01 that concern one event.
 pub const REFUSED_SIZE: u32 = 1;
@@ -49,27 +50,9 @@ pub fn physical_word(bus: &mut Bus, addr: u32) -> Option<u32> {
     (!bus.take_bus_error()).then_some(value)
 }
 
-/// One TLB slot.
-#[derive(Debug, Clone, Copy, PartialEq, Eq)]
-pub struct Slot {
-    pub valid: bool,
-    pub vpn: u32,
-    pub ppn: u32,
-    pub flags: u32,
-}
-
-/// The sixteen slots, as the published debugger's view shows them.
-pub fn slots(sys: &SystemState) -> Vec<Slot> {
-    let view = sys.mmu_snapshot();
-    view.entries
-        .iter()
-        .map(|entry| Slot {
-            valid: entry.valid,
-            vpn: entry.virtual_page >> 12,
-            ppn: entry.physical_page >> 12,
-            flags: flag_bits(entry.flags),
-        })
-        .collect()
+/// The sixteen slots.
+pub fn slots(sys: &SystemState) -> [TlbEntry; SLOTS] {
+    sys.vm.state().tlb
 }
 
 /// The slots as four words each, for a digest.

@@ -87,10 +87,18 @@ pub fn same<T: PartialEq + Debug>(name: &str, published: &T, port: &T) -> Result
         .zip(port.lines())
         .enumerate()
         .filter(|(_, (one, other))| one != other)
-        .map(|(line, (one, other))| format!("\n  {line}: published {one}, port {other}"))
+        .map(|(line, (one, other))| {
+            let (one, other) = (plain(one), plain(other));
+            format!("\n  line {line}: published {one}; port {other}")
+        })
         .take(SHOWN)
         .collect();
     Err(format!("the {name} differs{}", places.concat()))
+}
+
+/// A line of `{:#?}` without its indent and comma.
+fn plain(line: &str) -> &str {
+    line.trim().trim_end_matches(',')
 }
 
 /// So many places of a difference are shown.

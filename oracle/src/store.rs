@@ -105,14 +105,17 @@ pub const MACHINE_SEED: u64 = 0x3AC4_0558;
 
 fn machine_replay() -> Answers {
     let scripts = generate::scripts::stored(MACHINE_SEED);
+    let whole = scripts.iter().flat_map(|script| with_length(script));
+    let listings = scripts.iter().map(|script| inspect(script));
     Answers {
-        stdin: scripts
-            .iter()
-            .flat_map(|script| with_length(script))
-            .collect(),
-        stdout: scripts.iter().map(|script| inspect(script)).collect(),
+        stdin: whole.chain(CUT_OFF).collect(),
+        stdout: listings.chain([SAID_OF_IT.to_string()]).collect(),
     }
 }
+
+/// At the end a script of 24 bytes, of which the input has two; and what is said of it.
+const CUT_OFF: [u8; 6] = [0, 0, 0, 24, 0, 0];
+const SAID_OF_IT: &str = "cut off\n";
 
 /// Scripts stand in a row, each behind its length in four bytes.
 fn with_length(script: &[u8]) -> Vec<u8> {

@@ -4,9 +4,10 @@
 use std::fs;
 use std::path::Path;
 
-use oracle::access::{check, read, slots, Slot};
+use oracle::access::{check, read, slots};
 use oracle::bus::Bus;
 use oracle::cpu_privilege::{Access, SystemState};
+use oracle::state::TlbEntry;
 
 const VA: u32 = 0x5FFE;
 
@@ -48,13 +49,13 @@ fn full_state(bus: &mut Bus) -> SystemState {
     }
     assert_eq!(sys.mmu_snapshot().next_victim, 0);
     let full = pages.iter().map(|page| slot(*page, 3));
-    assert_eq!(slots(&sys), full.collect::<Vec<_>>());
+    assert_eq!(slots(&sys).to_vec(), full.collect::<Vec<_>>());
     sys
 }
 
 /// A user-readable page.
-fn slot(vpn: u32, ppn: u32) -> Slot {
-    Slot {
+fn slot(vpn: u32, ppn: u32) -> TlbEntry {
+    TlbEntry {
         valid: true,
         vpn,
         ppn,
@@ -63,7 +64,7 @@ fn slot(vpn: u32, ppn: u32) -> Slot {
 }
 
 /// The load: its value and walk reads, `next_victim` and slot 0 after it.
-fn loaded() -> (u32, u32, usize, Slot) {
+fn loaded() -> (u32, u32, usize, TlbEntry) {
     let mut bus = memory();
     let mut sys = full_state(&mut bus);
     let (verdict, reads) = check(&mut sys, &mut bus, VA, 4, Access::Read);

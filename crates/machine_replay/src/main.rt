@@ -1,15 +1,23 @@
 // Replays scripts from standard input and writes the listing of each, with the whole state after each event's line.
 //
-// The scripts stand in a row, each behind its length in four bytes.
+// The scripts stand in a row, each behind its length in four bytes. One that the input's end cuts off is not run, and a line says so.
 use common::be_word;
 
-// A script that the input's end cuts off is left out.
+fn show_cut() {
+    io::write_all(1, b"cut off\n");
+}
+
 fn show_all(input: &[u8]) {
     let mut at: usize = 0;
-    while input.len() - at >= 4 {
+    while at < input.len() {
+        if input.len() - at < 4 {
+            show_cut();
+            return;
+        }
         let length = be_word(input[at], input[at + 1], input[at + 2], input[at + 3]) as usize;
         let first = at + 4;
         if length > input.len() - first {
+            show_cut();
             return;
         }
         inspection::show(&input[first..first + length]);

@@ -14,8 +14,14 @@ abbrev μ-loop : tie.MeasureT-loop
 loop-holds : tie.Need-loop-holds Inv-loop μ-loop
 loop-holds c = search needs
 
-sub-loop : tie.Need-sub-loop Inv-loop μ-loop
-sub-loop c = search needs
+sub-if1 : tie.Need-sub-if1 Inv-loop μ-loop
+sub-if1 c = search needs
+
+show-cut-requires : tie.Need-show-cut-requires Inv-loop μ-loop
+show-cut-requires c κs = search needs
+
+returns : tie.Need-returns Inv-loop μ-loop
+returns c = search needs
 
 shared-slice-read-be-word : tie.Need-shared-slice-read-be-word Inv-loop μ-loop
 shared-slice-read-be-word c = search needs
@@ -47,11 +53,14 @@ cast-length c = search needs
 add-first : tie.Need-add-first Inv-loop μ-loop
 add-first c = search needs
 
-sub-if1 : tie.Need-sub-if1 Inv-loop μ-loop
-sub-if1 c = search needs
+sub-if2 : tie.Need-sub-if2 Inv-loop μ-loop
+sub-if2 c = search needs
 
-returns : tie.Need-returns Inv-loop μ-loop
-returns c = search needs
+show-cut-requires-2 : tie.Need-show-cut-requires-2 Inv-loop μ-loop
+show-cut-requires-2 c κs = search needs
+
+returns-2 : tie.Need-returns-2 Inv-loop μ-loop
+returns-2 c = search needs
 
 add-show : tie.Need-add-show Inv-loop μ-loop
 add-show c = search needs
@@ -77,8 +86,8 @@ loop-less c = search needs
 loop-again : tie.Need-loop-again Inv-loop μ-loop
 loop-again c = search needs
 
-returns-2 : tie.Need-returns-2 Inv-loop μ-loop
-returns-2 c = search needs
+returns-3 : tie.Need-returns-3 Inv-loop μ-loop
+returns-3 c = search needs
 
 pub show-all-spec : {M : Type 1} → statement M
 show-all-spec =
@@ -87,7 +96,9 @@ show-all-spec =
     Inv-loop
     μ-loop
     loop-holds
-    sub-loop
+    sub-if1
+    show-cut-requires
+    returns
     shared-slice-read-be-word
     add-be-word
     shared-slice-read-be-word-2
@@ -98,8 +109,9 @@ show-all-spec =
     be-word-requires
     cast-length
     add-first
-    sub-if1
-    returns
+    sub-if2
+    show-cut-requires-2
+    returns-2
     add-show
     sub-show
     part-show-start
@@ -108,4 +120,4 @@ show-all-spec =
     add-at
     loop-less
     loop-again
-    returns-2)
+    returns-3)

@@ -1,5 +1,6 @@
-//! The program `changed`: changes one rule at a time in a copy of the published Rust, and sees
-//! whether `verify` notices. A change that it does not notice says that an answer is missing.
+//! The program `changed`: changes one rule at a time in a copy of the published Rust or of the oracle's
+//! own reading of document 01, and sees whether the stored answers notice. A change that they do not
+//! notice says that an answer is missing.
 
 mod rules;
 
@@ -8,18 +9,20 @@ use std::fs;
 use std::path::{Path, PathBuf};
 use std::process::{Command, ExitCode};
 
-use oracle::store::SETS;
-use rules::{Rule, RULES};
+use oracle::store::{self, SETS};
+use rules::{Rule, Silent, RULES, SILENT};
 
 const HELP: &str = "\
-Changes rules of the published Rust, each in a copy below target/changed, and runs `verify`.
+Changes rules in copies of the published Rust and of the oracle below target/changed, and compares with
+the stored answers in crates/.
 
-  changed              every rule
+  changed              every rule, and those that nothing can show
   changed NAME..       these rules
   changed --list       their names
   changed --help       this text
 
-Prints in which stored sets each change was seen; the status is 1 if one was not.
+Prints in which stored sets each change was seen; the status is 1 if one was not, or if one was seen
+that nothing should show.
 ";
 
 fn main() -> ExitCode {
@@ -30,7 +33,8 @@ fn main() -> ExitCode {
             .iter()
             .map(|rule| format!("{}\n", rule.name))
             .collect()),
-        _ => chosen(&names).and_then(|rules| try_all(&rules)),
+        Some(_) => chosen(&names).and_then(|rules| try_all(&rules, &[])),
+        None => try_all(&RULES.iter().collect::<Vec<_>>(), &SILENT),
     };
     match done {
         Ok(text) => {
@@ -45,74 +49,101 @@ fn main() -> ExitCode {
 }
 
 fn chosen(names: &[String]) -> Result<Vec<&'static Rule>, String> {
-    if names.is_empty() {
-        return Ok(RULES.iter().collect());
-    }
-    let find = |name: &String| RULES.iter().find(|rule| rule.name == name);
+    let all = || RULES.iter().chain(SILENT.iter().map(|silent| &silent.rule));
+    let find = |name: &String| all().find(|rule| rule.name == name);
     names
         .iter()
         .map(|name| find(name).ok_or(format!("no rule is called {name}; --list has the names")))
         .collect()
 }
 
-fn try_all(rules: &[&Rule]) -> Result<String, String> {
+fn try_all(rules: &[&Rule], silent: &[Silent]) -> Result<String, String> {
     let work = Path::new(env!("CARGO_MANIFEST_DIR")).join("target/changed");
-    store_answers(&work.join("answers"))?;
-    let mut unseen = 0;
+    let unchanged = copy_all(&work).and_then(|()| differing(&work))?;
+    if !unchanged.is_empty() {
+        return Err(format!(
+            "without a change these differ: {}",
+            unchanged.join(" ")
+        ));
+    }
+    let mut wrong = 0;
     for rule in rules {
-        let sets = try_rule(rule, &work).map_err(|error| format!("{}: {error}", rule.name))?;
-        unseen += usize::from(sets.is_empty());
-        let seen = if sets.is_empty() {
-            "NOT SEEN".to_string()
-        } else {
-            sets.join(" ")
-        };
-        println!("{}: {seen}", rule.name);
+        let sets = try_rule(rule, &work)?;
+        wrong += usize::from(sets.is_empty());
+        println!("{}: {}", rule.name, shown(&sets));
     }
-    match unseen {
-        0 => Ok(format!("{} changes, all seen\n", rules.len())),
-        _ => Err(format!("{unseen} of {} changes not seen", rules.len())),
+    for Silent { rule, reason } in silent {
+        let sets = try_rule(rule, &work)?;
+        wrong += usize::from(!sets.is_empty());
+        println!("{}: {}, as {reason}", rule.name, shown(&sets));
+    }
+    let (tried, quiet) = (rules.len(), silent.len());
+    match wrong {
+        0 => Ok(format!(
+            "{tried} changes seen, {quiet} that nothing can show\n"
+        )),
+        _ => Err(format!(
+            "{wrong} of {} changes went otherwise",
+            tried + quiet
+        )),
     }
 }
 
-/// The answers of the unchanged Rust, which this program was compiled with.
-fn store_answers(folder: &Path) -> Result<(), String> {
-    for set in &SETS {
-        let place = folder.join(set.name);
-        fs::create_dir_all(&place)
-            .and_then(|()| set.write(folder))
-            .map_err(|error| format!("{}: {error}", place.display()))?;
+fn shown(sets: &[String]) -> String {
+    match sets {
+        [] => "not seen".to_string(),
+        _ => sets.join(" "),
     }
-    Ok(())
 }
 
-/// The sets in which the change is seen.
+/// The sets whose answers show the change. The copies are as before afterwards.
 fn try_rule(rule: &Rule, work: &Path) -> Result<Vec<String>, String> {
-    let copy = work.join("src32");
-    copy_published(&copy)?;
-    let file = copy.join(rule.file);
-    let text = fs::read_to_string(&file).map_err(|error| format!("{}: {error}", rule.file))?;
+    let wrong = |error: String| format!("{}: {}: {error}", rule.name, rule.file);
+    let file = work.join(rule.file);
+    let text = fs::read_to_string(&file).map_err(|error| wrong(error.to_string()))?;
     if text.matches(rule.old).count() != 1 {
-        return Err(format!("its text does not stand once in {}", rule.file));
+        return Err(wrong("its text does not stand there once".to_string()));
     }
-    fs::write(&file, text.replace(rule.old, rule.new))
-        .map_err(|error| format!("{}: {error}", rule.file))?;
-    verify(&copy, work)
+    let write = |text: &str| fs::write(&file, text).map_err(|error| wrong(error.to_string()));
+    write(&text.replace(rule.old, rule.new))?;
+    let sets = differing(work).map_err(wrong);
+    write(&text)?;
+    sets
 }
 
-fn copy_published(copy: &Path) -> Result<(), String> {
+/// The published files below `work/src32`, and this project below `work/oracle`.
+fn copy_all(work: &Path) -> Result<(), String> {
+    let published = Path::new(env!("PUBLISHED"));
     for file in env!("PUBLISHED_FILES").split(':') {
-        let (from, to): (PathBuf, PathBuf) =
-            (Path::new(env!("PUBLISHED")).join(file), copy.join(file));
-        let text = fs::read(&from).map_err(|error| format!("{file}: {error}"))?;
-        fs::create_dir_all(to.parent().unwrap_or(copy))
-            .and_then(|()| fs::write(&to, text))
-            .map_err(|error| format!("{}: {error}", to.display()))?;
+        copy(&published.join(file), &work.join("src32").join(file))?;
+    }
+    let home = Path::new(env!("CARGO_MANIFEST_DIR"));
+    for inside in ["Cargo.toml", "Cargo.lock", "build.rs", "src", "tracing"] {
+        copy(&home.join(inside), &work.join("oracle").join(inside))?;
     }
     Ok(())
 }
 
-fn verify(copy: &Path, work: &Path) -> Result<Vec<String>, String> {
+/// Copies a file, or a folder and what is in it.
+fn copy(from: &Path, to: &Path) -> Result<(), String> {
+    let wrong = |error| format!("{}: {error}", from.display());
+    if !from.is_dir() {
+        let folder = to.parent().unwrap_or(to);
+        return fs::create_dir_all(folder)
+            .and_then(|()| fs::copy(from, to))
+            .map(|_| ())
+            .map_err(wrong);
+    }
+    for entry in fs::read_dir(from).map_err(wrong)? {
+        let inside: PathBuf = entry.map_err(wrong)?.file_name().into();
+        copy(&from.join(&inside), &to.join(&inside))?;
+    }
+    Ok(())
+}
+
+/// The sets whose stored answers are not those of the copies. Compiling takes longest, so little is
+/// optimised.
+fn differing(work: &Path) -> Result<Vec<String>, String> {
     let output = Command::new("cargo")
         .args([
             "run",
@@ -122,14 +153,14 @@ fn verify(copy: &Path, work: &Path) -> Result<Vec<String>, String> {
             "1",
             "--bin",
             "oracle",
-            "--",
-            "verify",
-            "--in",
         ])
-        .arg(work.join("answers"))
-        .current_dir(env!("CARGO_MANIFEST_DIR"))
-        .env("SRC32", copy)
+        .args(["--", "verify", "--in"])
+        .arg(store::home())
+        .current_dir(work.join("oracle"))
+        .env("SRC32", work.join("src32"))
         .env("CARGO_TARGET_DIR", work.join("build"))
+        .env("CARGO_PROFILE_RELEASE_OPT_LEVEL", "1")
+        .env("CARGO_PROFILE_RELEASE_INCREMENTAL", "true")
         .output()
         .map_err(|error| format!("cargo cannot be started: {error}"))?;
     let text = String::from_utf8_lossy(&output.stdout);
@@ -137,6 +168,10 @@ fn verify(copy: &Path, work: &Path) -> Result<Vec<String>, String> {
     if compared != SETS.len() {
         return Err(String::from_utf8_lossy(&output.stderr).into_owned());
     }
-    let different = |line: &str| Some(line.split_once(": different:")?.0.to_string());
+    // A set whose input differs was made by another generator, and says nothing about an answer.
+    let different = |line: &str| {
+        let (set, place) = line.split_once(": different: ")?;
+        place.contains("/stdout").then(|| set.to_string())
+    };
     Ok(text.lines().filter_map(different).collect())
 }
