@@ -11,23 +11,24 @@ use crate::script::Script;
 use crate::state;
 use crate::watch::{Seen, Watch};
 
-/// Compares a script, good or not: how many events agreed, or the first difference.
-pub fn compare(bytes: &[u8], watch: &mut impl Watch) -> Result<usize, String> {
+/// Compares a script, good or not, and says what differs first.
+pub fn compare(bytes: &[u8], watch: &mut impl Watch) -> Result<(), String> {
     let listed = port::listing(bytes);
     let read = Script::read(bytes);
     watch.script(&read);
-    match read {
-        Ok(script) => {
-            let text = step_both(&script, watch)?;
-            same("listing", &text.as_bytes(), &listed.as_slice())?;
-            Ok(script.events.len())
-        }
-        Err(number) => {
-            let text = listing::refused(number);
-            same("listing", &text.as_bytes(), &listed.as_slice())?;
-            Ok(0)
-        }
+    let text = match read {
+        Ok(script) => step_both(&script, watch)?,
+        Err(number) => listing::refused(number),
+    };
+    if text.as_bytes() == listed {
+        return Ok(());
     }
+    let listed = String::from_utf8_lossy(&listed);
+    same("listing", &lines(&text), &lines(&listed))
+}
+
+fn lines(text: &str) -> Vec<&str> {
+    text.split('\n').collect()
 }
 
 /// Steps both sides through a script; the published side's listing.

@@ -207,7 +207,7 @@ mod tests {
     /// The programs that read these have buffers of fixed sizes.
     #[test]
     fn inputs_keep_to_their_sizes() {
-        assert!(machine_replay().stdin.len() <= 400_000);
+        assert!(machine_replay().stdin.len() < 524_288);
         for answers in [mmu_replay(), privilege_replay()] {
             let script = Script::read(&answers.stdin).expect("the input has a script's form");
             assert_eq!(script.events.len(), answers.stdout.lines().count());

@@ -1,13 +1,19 @@
 //! Scripts that are no chance: document 01's whole case, its run-only corner at a size that fits
-//! into a script, and a header on each side of every rule.
+//! into a script, numbers that are none, and a header on each side of every rule.
 
 use crate::event::Event;
-use crate::machine::{KIND_IRET, KIND_LOAD, KIND_WRITE};
+use crate::machine::{
+    KIND_ENABLE, KIND_FETCH, KIND_IRET, KIND_LOAD, KIND_OUTPUT, KIND_SOURCE, KIND_STORE, KIND_WRITE,
+};
 use crate::script::{Script, HEADER, LONGEST, PAGE};
 
 /// All of them, as bytes.
 pub fn all() -> Vec<Vec<u8>> {
-    let mut scripts = vec![whole_case().write(), stolen_slot().write()];
+    let mut scripts = vec![
+        whole_case().write(),
+        stolen_slot().write(),
+        odd_numbers().write(),
+    ];
     scripts.extend(HEADERS.iter().map(|(words, length)| bare(*words, *length)));
     scripts
 }
@@ -64,6 +70,31 @@ fn stolen_slot() -> Script {
         image,
         base: 0,
         last: 8,
+    }
+}
+
+/// Sizes that are no sizes; sources that a byte would take for source 3, and a level in a high bit.
+fn odd_numbers() -> Script {
+    let event = |kind, size, aux| Event {
+        kind,
+        size,
+        aux,
+        ..Event::default()
+    };
+    let accesses = [KIND_LOAD, KIND_STORE, KIND_FETCH];
+    let sizes = [0, 1, 3, 5, 8, 0xFF];
+    let mut events: Vec<Event> = accesses
+        .iter()
+        .flat_map(|kind| sizes.map(|size| event(*kind, size, 0)))
+        .collect();
+    events.push(event(KIND_ENABLE, 0, u16::MAX));
+    for (level, source) in [(1, 0x0103), (1, 0x0013), (1, 0x8003), (0x80, 3)] {
+        events.extend([event(KIND_SOURCE, level, source), event(KIND_OUTPUT, 0, 0)]);
+    }
+    Script {
+        events,
+        image: vec![0; PAGE as usize],
+        ..Script::default()
     }
 }
 

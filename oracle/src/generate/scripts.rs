@@ -237,3 +237,29 @@ fn kind(random: &mut Random) -> u8 {
         _ => random.pick(&[16, 17, 0x80, 0xFF]),
     }
 }
+
+#[cfg(test)]
+mod tests {
+    use super::{broken, long};
+    use crate::script::Script;
+
+    #[test]
+    fn long_scripts_are_good_and_long() {
+        for seed in 0..40 {
+            let script = Script::read(&long(seed)).expect("a good script");
+            assert!(script.events.len() >= 1_000, "seed {seed}");
+        }
+    }
+
+    /// Most of what is broken is refused, and for each of the three reasons.
+    #[test]
+    fn broken_scripts_are_refused() {
+        let refusals: Vec<u32> = (0..400)
+            .filter_map(|seed| Script::read(&broken(seed)).err())
+            .collect();
+        assert!(refusals.len() > 200);
+        for number in [2, 4, 5] {
+            assert!(refusals.contains(&number), "refusal {number}");
+        }
+    }
+}
