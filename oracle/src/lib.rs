@@ -1,8 +1,9 @@
-//! The reference for the port: the published modules of SRC32, compiled unchanged from a
+//! The reference for the port: the published modules of SRC32, compiled from their text in a
 //! checkout, over a small stand-in bus, and the programs that question them.
 //!
-//! `build.rs` finds the checkout. Below the published modules stand the shims for what they
-//! import; then come the parts of the oracle, one file each.
+//! `build.rs` finds the checkout, and puts a window on the private fields (`windows/`) behind the
+//! published text. Below the published modules stand the shims for what they import; then come the
+//! parts of the oracle, one file each.
 
 include!(concat!(env!("OUT_DIR"), "/published.rs"));
 

@@ -1,6 +1,6 @@
 //! Generators of meaningful inputs from a seed: one file for each replay, and what they share
 //! (page tables, system registers, runs under construction); then whole scripts, their damage,
-//! the cases that are fixed, and the count of what came of them.
+//! the cases that are fixed, states that no script makes, and the count of what came of scripts.
 
 pub mod cache;
 pub mod cases;

@@ -24,7 +24,7 @@ The published SRC32 modules beside the port, in one process.
   beside irqc [--seed S] [--count N]       the interrupt controller
   beside cache [--seed S] [--count N]      the L1 tag cache
   beside mmu [--seed S] [--count N]        TLB, walk and page check
-  beside states [--seed S] [--count N]     one operation on a state that no script makes
+  beside states [--seed S] [--count N]     single operations on states that no script makes
   beside speed [--count N]                 nanoseconds a load of the cache takes
   beside --help                            this text
 

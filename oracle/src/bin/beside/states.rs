@@ -13,26 +13,27 @@ use oracle::random::Random;
 use oracle::state::{Privilege, SLOTS};
 use oracle::{access, bus::Bus, cache, irqc as controller};
 
-/// States over one set of tables; then come others.
-const STATES: u64 = 500;
+/// Rounds over one set of tables; then come others.
+const ROUNDS: u64 = 500;
 
-/// Compares `count` states.
+/// Compares `count` rounds: a machine and an event, a privilege state that is asked, a controller, a
+/// cache.
 pub fn run(seed: u64, count: u64) -> Result<String, String> {
     let mut lanes = Generator::new(seed);
     let mut done = 0;
     while done < count {
-        let tables = seed.wrapping_add(done / STATES);
-        let wanted = STATES.min(count - done);
+        let tables = seed.wrapping_add(done / ROUNDS);
+        let wanted = ROUNDS.min(count - done);
         over_tables(tables, wanted, &mut lanes)
             .map_err(|what| format!("tables of seed {tables}: {what}"))?;
         done += wanted;
     }
     Ok(format!(
-        "states: {count} states agreed, each in six operations (seed {seed})"
+        "states: {count} rounds agreed, each over four states (seed {seed})"
     ))
 }
 
-/// A set of tables, and `count` states over it.
+/// A set of tables, and `count` rounds over it.
 fn over_tables(seed: u64, count: u64, lanes: &mut Generator) -> Result<(), String> {
     let mut random = Random::new(seed);
     let pages = 1 + random.below(3);
