@@ -36,7 +36,12 @@ extern "C" {
 
 /// The listing of any bytes.
 pub fn listing(script: &[u8]) -> Vec<u8> {
-    let mut out = vec![0; LONGEST_LISTING];
+    listing_within(script, LONGEST_LISTING)
+}
+
+/// The listing in a buffer of so many bytes.
+pub fn listing_within(script: &[u8], room: usize) -> Vec<u8> {
+    let mut out = vec![0; room];
     // SAFETY: see the head of `port`; the buffer is lent for the call.
     let length =
         unsafe { machine_list(script.as_ptr(), script.len(), out.as_mut_ptr(), out.len()) };

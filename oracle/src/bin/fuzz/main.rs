@@ -5,6 +5,7 @@
 
 use oracle::both::compare;
 use oracle::machine::KIND_EXTERNAL;
+use oracle::port::machine::{listing, listing_within};
 use oracle::script::Script;
 use oracle::watch::Unwatched;
 
@@ -27,11 +28,23 @@ pub unsafe extern "C" fn LLVMFuzzerTestOneInput(data: *const u8, size: usize) ->
     if swept(script) > MOST_SWEPT {
         return REJECTED;
     }
-    if let Err(difference) = compare(script, &mut Unwatched) {
+    let same = compare(script, &mut Unwatched).and_then(|()| cut_off(script));
+    if let Err(difference) = same {
         eprintln!("{difference}");
         std::process::abort();
     }
     0
+}
+
+/// A listing that has no room is cut off where the buffer ends, here at a place that the script's length
+/// chooses.
+fn cut_off(script: &[u8]) -> Result<(), String> {
+    let whole = listing(script);
+    let room = script.len() % (whole.len() + 1);
+    match listing_within(script, room) == whole[..room] {
+        true => Ok(()),
+        false => Err(format!("the listing in {room} bytes differs")),
+    }
 }
 
 /// What the script's external writes sweep in all.
