@@ -25,7 +25,7 @@ struct Row {
 }
 
 /// Below one in so many events an outcome is rare.
-const RARE: u64 = 10_000;
+const RARE: u64 = 20_000;
 /// Below one in so many scripts a refusal is rare, where scripts are damaged.
 const RARE_REFUSAL: u64 = 100;
 /// Too few events say nothing about rareness.
