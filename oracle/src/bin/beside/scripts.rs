@@ -55,6 +55,7 @@ pub fn run(sort: Sort, seed: u64, count: u64) -> Result<String, String> {
         let seed = seed.wrapping_add(index);
         check(&sort.script(seed), &format!("{seed}"), &mut tally)?;
     }
+    progress(count, count);
     let name = sort.name();
     let text = tally.text();
     let rare = sort.rare(&tally);
@@ -103,9 +104,14 @@ fn check(script: &[u8], name: &str, watch: &mut impl Watch) -> Result<(), String
     Err(format!("script {name}: {difference}\n{kept}"))
 }
 
-/// On a terminal alone.
+/// On a terminal alone; the line is gone at the end.
 fn progress(done: u64, count: u64) {
-    if done.is_multiple_of(64) && stderr().is_terminal() {
-        let _ = write!(stderr(), "\r{done} of {count} ");
+    let text = match done {
+        _ if done == count => "\r\x1B[K".to_string(),
+        _ if done.is_multiple_of(64) => format!("\r{done} of {count} "),
+        _ => return,
+    };
+    if stderr().is_terminal() {
+        let _ = write!(stderr(), "{text}");
     }
 }
