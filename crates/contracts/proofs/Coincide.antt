@@ -15,7 +15,7 @@ use Rattle.contracts.specs.Tables.{Tables}
 use Rattle.contracts.specs.Script.{Script}
 use Rattle.contracts.specs.Listing.{Listing}
 use Rattle.contracts.specs.Machine.{Machine}
-use Rattle.contracts.specs.Bridge.{Bridge}
+use Rattle.contracts.specs.Bridge.{Bridge, BridgeLent}
 
 common-settled : Common
 common-settled = search answer
@@ -155,6 +155,12 @@ machine-settled = record {
 bridge-settled : Bridge
 bridge-settled = search answer
 
+bridge-lent-settled : BridgeLent
+bridge-lent-settled = record {
+  machine-step = record { coincide = λ p q. next (both p q) };
+  machine-list = record { coincide = λ p q. next (text p q) };
+}
+
 pub all-settled : Contracts
 all-settled = record {
   common = common-settled;
@@ -170,6 +176,7 @@ all-settled = record {
   listing = listing-settled;
   machine = machine-settled;
   bridge = bridge-settled;
+  bridge-lent = bridge-lent-settled;
   loose = λ κs a m settled. false≢true (λ i. settled .coincide {κs = κs} {a = a} {r = false} {r′ = true} {m = m} {m′ = m} tt tt i .0);
   theorems = record { coincide = λ p q. refl };
 }

@@ -1,4 +1,4 @@
--- The parts under C names: two outcomes that a contract of `bridge` admits coincide (`Settled.antt`).
+-- The parts and the machine under C names: two outcomes that a contract of `bridge` admits coincide (`Settled.antt`).
 use Rattle.contracts.specs.Settled.{Settled}
 use Rattle.bridge.proofs as bridge
 
@@ -30,3 +30,17 @@ pub record Bridge : Type 0 where
   pub mmu-lookup : Settled bridge.mmu_calls.mmu_lookup.ended bridge.mmu_calls.mmu_lookup.Reads.Learnt
   pub mmu-walk : Settled bridge.mmu_calls.mmu_walk.ended bridge.mmu_calls.mmu_walk.Reads.Learnt
   pub mmu-check : Settled bridge.mmu_calls.mmu_check.ended bridge.mmu_calls.mmu_check.Reads.Learnt
+  pub exception-cause : Settled bridge.exception_calls.exception_cause.ended bridge.exception_calls.exception_cause.Reads.Learnt
+  pub exception-vector : Settled bridge.exception_calls.exception_vector.ended bridge.exception_calls.exception_vector.Reads.Learnt
+  pub machine-new : Settled bridge.machine_calls.machine_new.ended bridge.machine_calls.machine_new.Reads.Learnt
+  pub access-of : Settled bridge.mmu_calls.access_of.ended bridge.mmu_calls.access_of.Reads.Learnt
+  pub state-of : Settled bridge.privilege_calls.state_of.ended bridge.privilege_calls.state_of.Reads.Learnt
+  pub state-numbers : Settled bridge.privilege_calls.state_numbers.ended bridge.privilege_calls.state_numbers.Reads.Learnt
+  pub privilege-allows : Settled bridge.privilege_calls.privilege_allows.ended bridge.privilege_calls.privilege_allows.Reads.Learnt
+  pub privilege-debug-translate : Settled bridge.privilege_calls.privilege_debug_translate.ended bridge.privilege_calls.privilege_debug_translate.Reads.Learnt
+  pub privilege-tlb-entry : Settled bridge.privilege_calls.privilege_tlb_entry.ended bridge.privilege_calls.privilege_tlb_entry.Reads.Learnt
+
+-- those that are lent memory or a buffer
+pub record BridgeLent : Type 0 where
+  pub machine-step : Settled bridge.machine_calls.machine_step.ended bridge.machine_calls.machine_step.Reads.Learnt
+  pub machine-list : Settled bridge.machine_calls.machine_list.ended bridge.machine_calls.machine_list.Reads.Learnt

@@ -3,8 +3,7 @@ use Prim.Native.Nat.{ℕ, suc, _+_, _*_, _-_, _^_, _≤_, _<_}
 use mathlib.Core.Path.{_≡_, refl, sym, ap, _∙_}
 use mathlib.Core.List.{List, [], _∷_, _++_}
 use native.Mathlib.Omega.{arith}
-use borrow.Table.Elements.{length-take-le}
-use lib.ListN.{length, take, replicate, length-replicate}
+use lib.ListN.{length}
 use mir.Syntax.{w32}
 use mir.Val.{Fits}
 use Rattle.common.specs.Refusal.{refusalNumber}
@@ -14,7 +13,6 @@ use Rattle.listing.specs.Listing.Laws.{listing-is, lines-next, lines-done}
 use Rattle.memory.specs.Memory.{Memory, lent}
 use Rattle.script.specs.Event.{eventAt}
 use Rattle.script.specs.Header.{scriptOf}
-use Rattle.script.specs.Header.Laws.{good-sound}
 use Rattle.script.specs.Image.{bytesFrom}
 use Rattle.script.specs.declared.Event.{Event}
 use Rattle.script.specs.declared.header.Header.{Header}
@@ -113,13 +111,3 @@ module _ (s : List ℕ) (h : Header) (out : List ℕ) (z : List ℕ × ℕ) wher
 pub refused-listed : (s out : List ℕ) (z : List ℕ × ℕ) (x : Script) (r : Refusal) (n : ℕ) → x ≡ scriptOf s → x ≡ Refused r → n ≡ refusalNumber r → z ≡ written (out, 0) (refusedText n) → z ≡ written (out, 0) (listingOf s)
 unfolding listingOf listed
 refused-listed s out z x r n f g e q = q ∙ ap (written (out, 0)) (rw (← f, g, e))
-
--- a good script's image fits the runner's memory
-pub image-fits : (s : List ℕ) (h : Header) (x : Script) → x ≡ scriptOf s → x ≡ Good h → h .image ≤ 32768
-image-fits s h x e g = good-sound s h (sym e ∙ g) .small-image
-
--- so its memory, the front of the runner's, is as long as the image
-pub memory-length : (s : List ℕ) (h : Header) (x : Script) → x ≡ scriptOf s → x ≡ Good h → length {A = ℕ} (take (h .image) (replicate 32768 0)) ≡ h .image
-memory-length s h x e g =
-    let zeros : List ℕ = replicate 32768 0 in
-    length-take-le (h .image) zeros (rw (length-replicate {A = ℕ} 32768 0) (image-fits s h x e g))

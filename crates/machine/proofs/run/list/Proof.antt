@@ -1,5 +1,6 @@
 -- `machine::run::list` meets its contract: a good script's image fits, and its listing is its run's. Assumes nothing.
-use Rattle.machine.proofs.Runs.{image-fits, memory-length, good-listed, refused-listed}
+use Rattle.script.specs.Header.Laws.{image-fits, memory-length}
+use Rattle.machine.proofs.Runs.{good-listed, refused-listed}
 use mathlib.Core.Path.{sym}
 use borrow.Author.Needs.{needs}
 use Rattle.machine.proofs.run.list.Statement.{statement}
