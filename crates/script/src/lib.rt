@@ -1,6 +1,7 @@
 // An event script: document 01, 'Event script and its listing'. Here its events; `header` has its header and its image.
 ghost use mathlib.Core.Path.{_≡_};
-ghost use Prim.Native.Nat.{_<_};
+ghost use Prim.Native.Nat.{_+_, _≤_, _<_};
+ghost use lib.ListN.{length};
 ghost use Rattle.script.specs.Event.{byteOf, halfOf, wordOf, eventAt};
 ghost use Rattle.script.specs.Meaning.{Meaning};
 ghost use Rattle.script.specs.Corners.{Corners};
@@ -50,8 +51,22 @@ fn word_at(s: &[u8], at: usize, k: usize) -> u32
     )
 }
 
-// The event that starts at a place of the script.
-pub fn event_at(s: &[u8], at: usize) -> Event
+// The event at a place where all its bytes are there: none is tested.
+fn whole_event(s: &[u8], at: usize) -> Event
+    requires { ⌜ at + 12 ≤ length (now s) ⌝ }
+    ensures { λ r. ⌜ r ≡ eventAt (now (s .entry)) at ⌝ }
+{
+    Event {
+        kind: s[at],
+        size: s[at + 1],
+        aux: be_half(s[at + 2], s[at + 3]),
+        a: be_word(s[at + 4], s[at + 5], s[at + 6], s[at + 7]),
+        b: be_word(s[at + 8], s[at + 9], s[at + 10], s[at + 11]),
+    }
+}
+
+// The event at a place where the script may end within it: each byte is tested.
+fn cut_event(s: &[u8], at: usize) -> Event
     ensures { λ r. ⌜ r ≡ eventAt (now (s .entry)) at ⌝ }
 {
     Event {
@@ -61,6 +76,18 @@ pub fn event_at(s: &[u8], at: usize) -> Event
         a: word_at(s, at, 4),
         b: word_at(s, at, 8),
     }
+}
+
+// The event that starts at a place of the script. That all its bytes are there is tested once.
+pub fn event_at(s: &[u8], at: usize) -> Event
+    ensures { λ r. ⌜ r ≡ eventAt (now (s .entry)) at ⌝ }
+{
+    if s.len() >= EVENT_SIZE {
+        if at <= s.len() - EVENT_SIZE {
+            return whole_event(s, at);
+        }
+    }
+    cut_event(s, at)
 }
 
 // When each refusal is given, in the document's words.

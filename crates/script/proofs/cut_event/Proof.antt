@@ -1,8 +1,8 @@
--- `script::event_at` meets its contract: each field is the part that the definition names. Assumes nothing.
+-- `script::cut_event` meets its contract: each field is the part that the definition names. Assumes nothing.
 use Rattle.script.specs.Event.{eventAt}
 use borrow.Author.Needs.{needs}
-use Rattle.script.proofs.event_at.Statement.{statement}
-use Rattle.script.proofs.event_at.Tie as tie
+use Rattle.script.proofs.cut_event.Statement.{statement}
+use Rattle.script.proofs.cut_event.Tie as tie
 
 byte-at-requires : tie.Need-byte-at-requires
 byte-at-requires c κs = search needs
@@ -23,8 +23,8 @@ returns : tie.Need-returns
 unfolding eventAt
 returns c = cc
 
-pub event-at-spec : {M : Type 1} → statement M
-event-at-spec =
+pub cut-event-spec : {M : Type 1} → statement M
+cut-event-spec =
     tie.close
     (tie.spec
     byte-at-requires
