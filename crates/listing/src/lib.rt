@@ -58,10 +58,13 @@ fn put_costs(out: &mut [u8], at: usize, stall: u64, reads: u32) -> usize
     put_byte(out, last, b'\n')
 }
 
-// The line of one event.
+// The line of one event. A line that has no room at all is not made.
 pub fn put_line(out: &mut [u8], at: usize, index: u32, line: Line) -> usize
     ensures { λ r. ⌜ (now (out .exit), r) ≡ written (now (out .entry), at) (lineText index line) ⌝ }
 {
+    if at >= out.len() {
+        return at;
+    }
     let digits = put_mark(out, at, index, line.letter);
     let costs = put_spaced_hex(out, digits, line.digits);
     put_costs(out, costs, line.stall, line.reads)

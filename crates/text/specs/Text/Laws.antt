@@ -3,6 +3,7 @@
 --   written-append   == a text after another is written where that ended
 --   written-length   == the buffer keeps its length
 --   written-in       == a place within the buffer stays within it
+--   written-full     == text at or past the end changes nothing
 --   written-fits     == where there is room for all of it, the text stands there and the place is after it
 --   hex-length       == as many digits as asked for
 --   hex-eight        == the eight digits of a word
@@ -38,6 +39,11 @@ pub written-length : (w : List ℕ × ℕ) (text : List ℕ) → length (written
 unfolding written
 written-length w [] = refl
 written-length w (b ∷ text) = written-length (put w b) text ∙ put-length (w .0) (w .1) b
+
+pub written-full : (out : List ℕ) (at : ℕ) (text : List ℕ) → length out ≤ at → (out, at) ≡ written (out, at) text
+unfolding written put
+written-full out at [] h = refl
+written-full out at (b ∷ text) h = rw (le-ltb at (length out) h) (written-full out at text h)
 
 pub written-fits : (out : List ℕ) (at : ℕ) (text : List ℕ) → at + length text ≤ length out
     → written (out, at) text ≡ (sets out at text, at + length text)
