@@ -175,6 +175,47 @@ impl Run {
         self.access(kind, 0x3F_FFFF - back, value);
     }
 
+    /// Sixteen pages become resident, and then are accessed in any order: there is a hit in every slot.
+    pub fn every_slot(&mut self) {
+        let (root, table) = self.own_table();
+        let first = u32::from(root == table);
+        for page in first..first + 16 {
+            let frame = self.layout.frame(self.random.below(self.layout.pages));
+            self.access(KIND_STORE, table + 4 * page, frame | 0x1F);
+        }
+        self.enter_through(root);
+        for page in first..first + 16 {
+            self.access(KIND_LOAD, page * PAGE, 0);
+        }
+        for _ in 0..24 {
+            let kind = self
+                .random
+                .pick(&[KIND_LOAD, KIND_LOAD, KIND_STORE, KIND_FETCH]);
+            let place = (first + self.random.below(16)) * PAGE + 4 * self.random.below(PAGE / 4);
+            self.access(kind, place, 0);
+        }
+    }
+
+    /// Each region grants something of a part of the map that is its own; users access their ends.
+    pub fn every_region(&mut self) {
+        self.push(KIND_TRAP);
+        self.write(SR_VCTL, 0);
+        let starts: Vec<u32> = (0..8).map(|n| self.layout.base + n * 0x100).collect();
+        for (number, start) in (0x10..).step_by(4).zip(&starts) {
+            let flags = self.random.pick(&[7, 7, 1, 2, 4]);
+            for (field, value) in (0..).zip([*start, start + 0x80, flags]) {
+                self.write(number + field, value);
+            }
+        }
+        self.enter_user();
+        for _ in 0..32 {
+            let kind = self.random.pick(&[KIND_LOAD, KIND_STORE, KIND_FETCH]);
+            let place = self.random.pick(&[0, 0, 0x40, 0x7C, 0x7C, 0x7D, 0x80]);
+            let start = self.random.pick(&starts);
+            self.access(kind, start + place, 0);
+        }
+    }
+
     /// An address to access: through the tables, inside the map, or at an end of something.
     pub fn address(&mut self, translate: bool) -> u32 {
         if translate && self.random.chance(85) {

@@ -28,21 +28,41 @@ pub fn any(seed: u64) -> Vec<u8> {
     }
 }
 
-/// A long script, good in any case. Of the system register numbers it asks for a block that its seed
+/// A long script, good in any case, in which every slot of the TLB is hit, every region is asked and a
+/// penalty has any number of digits. Of the system register numbers it asks for a block that its seed
 /// chooses: `BLOCKS` seeds in a row ask for all of them.
 pub fn long(seed: u64) -> Vec<u8> {
     let mut random = Random::new(seed);
     let pages = random.below(9);
-    let count = 1_000 + random.below(850) as usize;
+    let count = 1_000 + random.below(750) as usize;
     let mut script = script(Random::new(random.word64()), pages, count);
-    let at = random.below(script.events.len() as u32) as usize;
+    if random.chance(50) {
+        script.last = random.word() >> random.below(32);
+    }
+    let tour = tour(
+        Random::new(random.word64()),
+        Layout::new(script.base, pages),
+    );
     let block = register_block((seed % BLOCKS) as u16, &mut random);
-    script.events.splice(at..at, block);
+    for part in [tour, block] {
+        let at = random.below(script.events.len() as u32) as usize;
+        script.events.splice(at..at, part);
+    }
     script.events.truncate(MOST_EVENTS as usize);
     match random.below(10) {
         0 => rearranged(&script, &mut random),
         _ => script.write(),
     }
+}
+
+/// Every slot and every region.
+fn tour(random: Random, layout: Layout) -> Vec<Event> {
+    let mut run = Run::new(random, layout);
+    if run.layout.pages > 0 {
+        run.every_slot();
+    }
+    run.every_region();
+    run.events
 }
 
 /// Blocks of system register numbers.
