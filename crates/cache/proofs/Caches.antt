@@ -93,7 +93,7 @@ unfolding ctrlWord
 ctrl-is c = flags (c .i .enabled) (c .d .enabled)
 
 -- a bit of the written word, as the code tests it
-abbrev masked : ℕ → ℕ → Bool
+abbrev pub masked : ℕ → ℕ → Bool
 masked v m = not (eqb (bitAnd v m) 0)
 
 pub control-written : (c : L1Cache) (i d : Bank) (offset v : ℕ) → offset ≡ 4

@@ -1,6 +1,8 @@
 pub mod Banks
 pub mod Sweep
 pub mod Caches
+pub mod InPlace
+pub mod Registers
 pub mod Lanes
 pub mod Histories
 pub mod Sentences

@@ -3,3 +3,5 @@ pub mod Cache
 pub mod History
 pub mod Meaning
 pub mod Corners
+pub mod Lent
+pub mod RegistersLent

@@ -11,6 +11,9 @@ ghost use Rattle.cache.specs.Meaning.{Meaning};
 ghost use Rattle.cache.specs.History.{History};
 ghost use Rattle.cache.specs.Corners.{Corners};
 
+pub mod lent;
+pub mod registers_lent;
+
 pub const LINE_SHIFT: u32 = 5;
 
 const SIZE_SHIFT: u32 = 13;

@@ -2,6 +2,7 @@
 --
 --   mapTo f n l        == the first n elements mapped, the others as they were: what a loop that maps an array in place has done
 --   map-to-one         == a list whose every element is mapped to x is as many x
+--   overTo n l z       == the first n elements of l over those of z: what a loop that copies into an array has done
 --   Each P l           == every number of the list has the property
 --   mapped-length      == the length of an array that is a struct's field: owning the struct tells it of the mapped list
 use Prim.Native.Nat.{ℕ, zero, suc, _+_, _≤_, _<_}
@@ -68,3 +69,40 @@ pub each-getD : (P : ℕ → Type 0) (l : List ℕ) → Each P l → (i : ℕ) �
 each-getD P [] h i g = absurd (omega arith)
 each-getD P (a ∷ l) h zero g = h .0
 each-getD P (a ∷ l) h (suc i) g = each-getD P l (h .1) i (omega arith)
+
+-- the first n elements of one list over those of another: what a loop that copies into an array has done
+unfoldable pub overTo : {A : Type 0} → ℕ → List A → List A → List A
+overTo zero l z = z
+overTo (suc n) [] z = z
+overTo (suc n) (x ∷ l) [] = []
+overTo (suc n) (x ∷ l) (y ∷ z) = x ∷ overTo n l z
+
+module _ {A : Type 0} where
+  pub overTo-none : (l z : List A) → overTo 0 l z ≡ z
+  unfolding overTo
+  overTo-none l z = refl
+
+  over-suc : (n : ℕ) (l z : List A) (d : A) → n < length l → set (overTo n l z) n (getD l n d) ≡ overTo (suc n) l z
+  unfolding overTo
+  over-suc n [] z d h = absurd (not-suc-le-zero h)
+  over-suc zero (x ∷ l) [] d h = refl
+  over-suc zero (x ∷ l) (y ∷ z) d h = refl
+  over-suc (suc n) (x ∷ l) [] d h = refl
+  over-suc (suc n) (x ∷ l) (y ∷ z) d h = ap (λ (t : List A). x ∷ t) (over-suc n l z d (le-of-suc-le-suc h))
+
+  over-all : (n : ℕ) (l z : List A) → length l ≤ n → length z ≡ length l → overTo n l z ≡ l
+  unfolding overTo
+  over-all zero [] [] h e = refl
+  over-all zero [] (y ∷ z) h e = absurd (omega arith)
+  over-all zero (x ∷ l) z h e = absurd (not-suc-le-zero h)
+  over-all (suc n) [] [] h e = refl
+  over-all (suc n) [] (y ∷ z) h e = absurd (omega arith)
+  over-all (suc n) (x ∷ l) [] h e = absurd (omega arith)
+  over-all (suc n) (x ∷ l) (y ∷ z) h e = ap (λ (t : List A). x ∷ t) (over-all n l z (le-of-suc-le-suc h) (omega arith))
+
+  -- one turn of the loop, and its end
+  pub overTo-next : (l z now : List A) (n : ℕ) (d x : A) → n < length l → now ≡ overTo n l z → x ≡ getD l n d → set now n x ≡ overTo (n + 1) l z
+  overTo-next l z now n d x h e g = rw (g, e, add-one) (over-suc n l z d h)
+
+  pub overTo-done : (l z now : List A) (n : ℕ) → length l ≤ n → length z ≡ length l → now ≡ overTo n l z → now ≡ l
+  overTo-done l z now n h e p = p ∙ over-all n l z h e

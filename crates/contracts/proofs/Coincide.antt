@@ -1,16 +1,22 @@
 -- Each contract is settled, by its shape (`Shapes.antt`).
 use mathlib.Core.Bool.{true, false, false≢true}
-use mathlib.Core.Path.{refl, sym, _∙_}
+use mathlib.Core.Path.{refl, sym, ap, _∙_}
+use mathlib.Core.List.{[]}
+use Rattle.cache.specs.Bank.{newBank}
+use Rattle.cache.specs.RegistersLent.{noCounts}
+use Rattle.cache.specs.declared.L1Cache.{L1Cache}
+use Rattle.contracts.proofs.Lent.{noRange, touched, snooped, banks, found-same, flush-open, status-same, trap-same, return-same, checked-same, written-same}
 use Rattle.contracts.proofs.Shapes.{answer, content, both, text, next}
+use Rattle.mmu.specs.Vm.{newVm}
 use Rattle.contracts.specs.Contracts.{Contracts}
 use Rattle.contracts.specs.Common.{Common}
 use Rattle.contracts.specs.Text.{Text}
 use Rattle.contracts.specs.Digest.{Digest}
 use Rattle.contracts.specs.Irqc.{Irqc}
-use Rattle.contracts.specs.Cache.{Cache}
+use Rattle.contracts.specs.Cache.{Cache, CacheLent}
 use Rattle.contracts.specs.Memory.{Memory}
-use Rattle.contracts.specs.Mmu.{Mmu}
-use Rattle.contracts.specs.Privilege.{Privilege}
+use Rattle.contracts.specs.Mmu.{Mmu, MmuLent}
+use Rattle.contracts.specs.Privilege.{Privilege, PrivilegeLent}
 use Rattle.contracts.specs.Tables.{Tables}
 use Rattle.contracts.specs.Script.{Script}
 use Rattle.contracts.specs.Listing.{Listing}
@@ -59,6 +65,16 @@ irqc-settled = record {
 cache-settled : Cache
 cache-settled = search answer
 
+cache-lent-settled : CacheLent
+cache-lent-settled = record {
+  touch = record { coincide = touched };
+  snoop = record { coincide = λ p q. snooped (ap (λ (c : L1Cache). c .i) (p noCounts newBank ∙ sym (q noCounts newBank))) };
+  external-write = record { coincide = content };
+  read-reg-lent = record { coincide = λ p q. answer (p noRange [] []) (q noRange [] []) };
+  write-reg-lent = record { coincide = λ p q. banks (p noRange ∙ sym (q noRange)) };
+  reset-lent = record { coincide = λ p q. banks (p noRange newBank newBank ∙ sym (q noRange newBank newBank)) };
+}
+
 memory-settled : Memory
 memory-settled = record {
   good-range = record { coincide = answer };
@@ -66,10 +82,22 @@ memory-settled = record {
   read-byte = record { coincide = answer };
   read-word = record { coincide = answer };
   put-byte = record { coincide = both };
+  read-half = record { coincide = answer };
+  put-half = record { coincide = both };
+  put-word = record { coincide = both };
 }
 
 mmu-settled : Mmu
 mmu-settled = search answer
+
+mmu-lent-settled : MmuLent
+mmu-lent-settled = record {
+  words-of = record { agree = λ p q. p .0 ∙ sym (q .0) };
+  tlb-of = record { coincide = answer };
+  check-lent = record { agree = λ p q. found-same _ _ _ _ _ _ p q };
+  flush-lent = record { agree = λ p q six. p six .0 ∙ sym (q six .0) };
+  invalidate-lent = record { agree = λ p q ls six. p ls six .0 ∙ sym (q ls six .0) };
+}
 
 privilege-settled : Privilege
 privilege-settled = record {
@@ -99,6 +127,19 @@ privilege-settled = record {
   swap-bank = record { coincide = answer };
   enter-trap = record { coincide = answer };
   leave-trap = record { coincide = answer };
+}
+
+privilege-lent-settled : PrivilegeLent
+privilege-lent-settled = record {
+  status-of = record { coincide = λ p q. answer (status-same (p ∙ sym q)) refl };
+  state-of = record { coincide = answer };
+  enter-trap = record { coincide = λ p q. next (trap-same (p [] newVm ∙ sym (q [] newVm))) };
+  leave-trap = record { coincide = λ p q. next (return-same (p [] newVm ∙ sym (q [] newVm))) };
+  check-access-lent = record { agree = λ p q. checked-same _ _ _ _ _ _ _ _ _ p q };
+  read-sr-lent = record { coincide = λ p q. answer (p []) (q []) };
+  write-sr-lent = record { agree = λ p q six. written-same (p six) (q six) };
+  read-run = record { coincide = answer };
+  write-run = record { coincide = both };
 }
 
 tables-settled : Tables
@@ -146,8 +187,9 @@ machine-settled = record {
     coincide = λ p q i.
         let machine = p .0 ∙ sym (q .0) in
         let memory = p .1 .0 ∙ sym (q .1 .0) in
-        let listed = p .1 .1 ∙ sym (q .1 .1) in
-        (record { machine = machine i; place = listed i .1 }, (tt, (memory i, (tt, (tt, (tt, (tt, (listed i .0, (tt, tt)))))))));
+        let listed = p .1 .1 .0 ∙ sym (q .1 .1 .0) in
+        let totals = p .1 .1 .1 ∙ sym (q .1 .1 .1) in
+        (record { machine = machine i; place = listed i .1; totals = totals i }, (tt, (memory i, (tt, (tt, (tt, (tt, (listed i .0, (tt, tt)))))))));
   };
   list = record { coincide = λ p q. next (text p q) };
 }
@@ -159,6 +201,7 @@ bridge-lent-settled : BridgeLent
 bridge-lent-settled = record {
   machine-step = record { coincide = λ p q. next (both p q) };
   machine-list = record { coincide = λ p q. next (text p q) };
+  race-run = record { coincide = both };
 }
 
 pub all-settled : Contracts
@@ -168,9 +211,12 @@ all-settled = record {
   digest = digest-settled;
   irqc = irqc-settled;
   cache = cache-settled;
+  cache-lent = cache-lent-settled;
   memory = memory-settled;
   mmu = mmu-settled;
+  mmu-lent = mmu-lent-settled;
   privilege = privilege-settled;
+  privilege-lent = privilege-lent-settled;
   tables = tables-settled;
   script = script-settled;
   listing = listing-settled;
@@ -179,4 +225,5 @@ all-settled = record {
   bridge-lent = bridge-lent-settled;
   loose = λ κs a m settled. false≢true (λ i. settled .coincide {κs = κs} {a = a} {r = false} {r′ = true} {m = m} {m′ = m} tt tt i .0);
   theorems = record { coincide = λ p q. refl };
+  open-words = flush-open;
 }

@@ -22,3 +22,12 @@ pub record Cache : Type 0 where
   pub write-reg : Settled cache.L1Cache.write_reg.ended cache.L1Cache.write_reg.Reads.Learnt
   pub read-byte : Settled cache.L1Cache.read_byte.ended cache.L1Cache.read_byte.Reads.Learnt
   pub write-byte : Settled cache.L1Cache.write_byte.ended cache.L1Cache.write_byte.Reads.Learnt
+
+-- where the tags stand
+pub record CacheLent : Type 0 where
+  pub touch : Settled cache.lent.touch.ended cache.lent.touch.Reads.Learnt
+  pub snoop : Settled cache.lent.snoop.ended cache.lent.snoop.Reads.Learnt
+  pub external-write : Settled cache.lent.external_write.ended cache.lent.external_write.Reads.Learnt
+  pub read-reg-lent : Settled cache.registers_lent.read_reg_lent.ended cache.registers_lent.read_reg_lent.Reads.Learnt
+  pub write-reg-lent : Settled cache.registers_lent.write_reg_lent.ended cache.registers_lent.write_reg_lent.Reads.Learnt
+  pub reset-lent : Settled cache.registers_lent.reset_lent.ended cache.registers_lent.reset_lent.Reads.Learnt

@@ -3,15 +3,16 @@ use contract.Lifetimes.{Lfts}
 use denote.Triple.Clauses.{Lasts}
 use denote.Triple.Entry.{Args}
 use Rattle.memory.proofs.put_byte
+use Rattle.mmu.proofs.flush_lent.flush_lent
 use Rattle.contracts.specs.Settled.{Settled, theorem}
 use Rattle.contracts.specs.Common.{Common}
 use Rattle.contracts.specs.Text.{Text}
 use Rattle.contracts.specs.Digest.{Digest}
 use Rattle.contracts.specs.Irqc.{Irqc}
-use Rattle.contracts.specs.Cache.{Cache}
+use Rattle.contracts.specs.Cache.{Cache, CacheLent}
 use Rattle.contracts.specs.Memory.{Memory}
-use Rattle.contracts.specs.Mmu.{Mmu}
-use Rattle.contracts.specs.Privilege.{Privilege}
+use Rattle.contracts.specs.Mmu.{Mmu, MmuLent}
+use Rattle.contracts.specs.Privilege.{Privilege, PrivilegeLent}
 use Rattle.contracts.specs.Tables.{Tables}
 use Rattle.contracts.specs.Script.{Script}
 use Rattle.contracts.specs.Listing.{Listing}
@@ -24,9 +25,12 @@ pub record Contracts : Type 0 where
   pub digest : Digest
   pub irqc : Irqc
   pub cache : Cache
+  pub cache-lent : CacheLent
   pub memory : Memory
   pub mmu : Mmu
+  pub mmu-lent : MmuLent
   pub privilege : Privilege
+  pub privilege-lent : PrivilegeLent
   pub tables : Tables
   pub script : Script
   pub listing : Listing
@@ -40,3 +44,5 @@ pub record Contracts : Type 0 where
       (κs : Lfts 1) (a : Args (put_byte.ended .signature) κs) →
       Lasts put_byte.ended κs a →
       ¬ (Settled put_byte.ended (λ κs a r e. Unit {0}))
+  -- `SettledAs` is needed: a flush fixes the entries, and not the words
+  pub open-words : (κs : Lfts 2) → Args (flush_lent.ended .signature) κs → ¬ (Settled flush_lent.ended flush_lent.Reads.Learnt)

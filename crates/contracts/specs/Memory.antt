@@ -8,3 +8,6 @@ pub record Memory : Type 0 where
   pub read-byte : Settled memory.read_byte.ended memory.read_byte.Reads.Learnt
   pub read-word : Settled memory.read_word.ended memory.read_word.Reads.Learnt
   pub put-byte : Settled memory.put_byte.ended memory.put_byte.Reads.Learnt
+  pub read-half : Settled memory.span.read_half.ended memory.span.read_half.Reads.Learnt
+  pub put-half : Settled memory.span.put_half.ended memory.span.put_half.Reads.Learnt
+  pub put-word : Settled memory.span.put_word.ended memory.span.put_word.Reads.Learnt

@@ -9,6 +9,7 @@ use mir.Val.{Fits}
 use Rattle.common.specs.Refusal.{refusalNumber}
 use Rattle.common.specs.declared.Refusal.{Refusal}
 use Rattle.listing.specs.Listing.{lineText, linesFrom, endText, refusedText}
+use Rattle.listing.specs.declared.Line.{Line}
 use Rattle.listing.specs.Listing.Laws.{listing-is, lines-next, lines-done}
 use Rattle.memory.specs.Memory.{Memory, lent}
 use Rattle.script.specs.Event.{eventAt}
@@ -21,9 +22,15 @@ use Rattle.script.specs.declared.header.Script.the-variants.{Good, Refused}
 use Rattle.text.specs.Text.{written}
 use Rattle.machine.specs.Event.{stepOf}
 use Rattle.machine.specs.Event.Laws.{step-lent}
+use Rattle.cache.specs.declared.lent.Range.{Range}
+use Rattle.mmu.specs.Words.{tlbOf}
+use Rattle.machine.specs.InPlace.{arrays, machineOf, rangeOf, Unpacked}
+use Rattle.machine.specs.declared.parts.Parts.{Parts}
 use Rattle.machine.specs.Run.{Run, after, runFrom, scriptRun, listed, listingOf}
 use Rattle.machine.specs.Run.Laws.{run-lines, run-none, run-next}
 use Rattle.machine.specs.State.{newMachine}
+use Rattle.machine.specs.Totals.{noTotals, counted, totalsFrom}
+use Rattle.machine.specs.declared.totals.Totals.{Totals}
 use Rattle.machine.specs.declared.state.Machine.{Machine}
 use Rattle.machine.specs.declared.event.Stepped.{Stepped}
 
@@ -85,6 +92,89 @@ module _ (n : ℕ) (s : List ℕ) (first : ℕ) (M : Machine) (base : ℕ) (l : 
   pub lines-first : (out : List ℕ) (at : ℕ) (last : List ℕ) → written (out, at) (linesFrom 0 (runFrom n s first M (lent base l) .lines) ++ last)
       ≡ written (out, at) (linesFrom 0 (left n 0 s first M base l .lines) ++ last)
   lines-first out at last = ap (λ (r : Run). written (out, at) (linesFrom 0 (r .lines) ++ last)) left-all
+
+-- what a run comes to, from event k on: the machine and the memory that it leaves, the text that it writes, the totals of its lines
+abbrev pub Going : ℕ → List ℕ → ℕ → ℕ → Run → List ℕ × ℕ → ℕ → Machine → List ℕ → List ℕ → ℕ → Totals → Type 0
+Going n s first base R z k M l out place t =
+    (R .machine ≡ left n k s first M base l .machine)
+    × (R .memory ≡ left n k s first M base l .memory)
+    × (z ≡ written (out, place) (linesFrom k (left n k s first M base l .lines) ++ endText n))
+    × (totalsFrom noTotals (R .lines) ≡ totalsFrom t (left n k s first M base l .lines))
+
+module _ (n : ℕ) (s : List ℕ) (first base : ℕ) where
+  pub going-first : (M : Machine) (l out : List ℕ) (at : ℕ) (t : Totals) → t ≡ noTotals
+      → Going n s first base (runFrom n s first M (lent base l)) (written (out, at) (linesFrom 0 (runFrom n s first M (lent base l) .lines) ++ endText n)) 0 M l out at t
+  going-first M l out at t h =
+      rw h
+      (machine-first n s first M base l, memory-first n s first M base l, lines-first n s first M base l out at (endText n), ap (λ (r : Run). totalsFrom noTotals (r .lines)) (left-all n s first M base l))
+
+  module _ (R : Run) (z : List ℕ × ℕ) (k : ℕ) (M : Machine) (l out : List ℕ) (place : ℕ) (t : Totals) (g : Going n s first base R z k M l out place t) where
+    pub going-next : (e : Event) (M′ : Machine) (x : Line) (l′ out′ : List ℕ) (place′ : ℕ) (t′ : Totals) → k < n → e ≡ eventAt s (first + 12 * k)
+        → record { machine = M′; line = x } ≡ stepOf M (lent base l) e .stepped → l′ ≡ stepOf M (lent base l) e .memory .bytes
+        → (out′, place′) ≡ written (out, place) (lineText k x) → t′ ≡ counted t x → Going n s first base R z (k + 1) M′ l′ out′ place′ t′
+    unfolding totalsFrom
+    going-next e M′ x l′ out′ place′ t′ h is q p w c =
+        let step : Stepped = record { machine = M′; line = x } in (
+          machine-next n k s first M base l e step l′ h is q p R (g .0),
+          memory-next n k s first M base l e step l′ h is q p R (g .1),
+          lines-stepped n k s first M base l e step l′ h is q p z out place (endText n) out′ place′ (g .2) w,
+          g .3 ∙ ap (λ (r : Run). totalsFrom t (r .lines)) (left-next n k s first M base l e step l′ h is q p) ∙ rw c,
+        )
+
+    module _ (le : k ≤ n) (ge : n ≤ k) where
+      pub going-machine : (M′ : Machine) → M′ ≡ M → M′ ≡ R .machine
+      going-machine M′ h = h ∙ machine-last n k s first M base l le ge R (g .0)
+
+      pub going-memory : l ≡ R .memory .bytes
+      going-memory = memory-last n k s first M base l le ge R (g .1)
+
+      pub going-lines : (out′ : List ℕ) (place′ : ℕ) → (out′, place′) ≡ written (out, place) (endText n) → (out′, place′) ≡ z
+      going-lines out′ place′ w = lines-last n k s first M base l le ge z out place (endText n) out′ place′ (g .2) w
+
+      pub going-totals : t ≡ totalsFrom noTotals (R .lines)
+      unfolding totalsFrom
+      going-totals = sym (g .3 ∙ ap (λ (r : Run). totalsFrom t (r .lines)) (left-none n k s first M base l le ge))
+
+-- the end of a run that started on the parts of M
+module _ (n : ℕ) (s : List ℕ) (first base : ℕ) (M₀ M : Machine) (u : M₀ ≡ M) (l₀ out₀ : List ℕ) (at k : ℕ) (N : Machine) (l out : List ℕ) (place : ℕ) (t : Totals)
+    (g : Going n s first base (runFrom n s first M₀ (lent base l₀)) (written (out₀, at) (linesFrom 0 (runFrom n s first M₀ (lent base l₀) .lines) ++ endText n)) k N l out place t)
+    (le : k ≤ n) (ge : n ≤ k) where
+  abbrev R : Run
+  R = runFrom n s first M₀ (lent base l₀)
+
+  pub end-machine : (N′ : Machine) → N′ ≡ N → N′ ≡ runFrom n s first M (lent base l₀) .machine
+  end-machine N′ h = rw (← u) (going-machine n s first base R _ k N l out place t g le ge N′ h)
+
+  pub end-memory : l ≡ runFrom n s first M (lent base l₀) .memory .bytes
+  end-memory = rw (← u) (going-memory n s first base R _ k N l out place t g le ge)
+
+  pub end-lines : (out′ : List ℕ) (place′ : ℕ) → (out′, place′) ≡ written (out, place) (endText n)
+      → (out′, place′) ≡ written (out₀, at) (linesFrom 0 (runFrom n s first M (lent base l₀) .lines) ++ endText n)
+  end-lines out′ place′ w = rw (← u) (going-lines n s first base R _ k N l out place t g le ge out′ place′ w)
+
+  pub end-totals : t ≡ totalsFrom noTotals (runFrom n s first M (lent base l₀) .lines)
+  end-totals = rw (← u) (going-totals n s first base R _ k N l out place t g le ge)
+
+-- an event that went by value, on a machine that had not moved
+pub value-next : (M N M′ : Machine) (base : ℕ) (l l₁ : List ℕ) (e : Event) (t : Stepped) → t ≡ stepOf N (lent base l₁) e .stepped → (N ≡ M) × (l₁ ≡ l) → M′ ≡ t .machine
+    → record { machine = M′; line = t .line } ≡ stepOf M (lent base l) e .stepped
+value-next M N M′ base l l₁ e t q k u = rw (u, q, k .0, k .1)
+
+pub value-bytes : (M N : Machine) (base : ℕ) (l l₁ l′ : List ℕ) (e : Event) → l′ ≡ stepOf N (lent base l₁) e .memory .bytes → (N ≡ M) × (l₁ ≡ l) → l′ ≡ stepOf M (lent base l) e .memory .bytes
+value-bytes M N base l l₁ l′ e q k = q ∙ rw (k .0, k .1)
+
+-- a machine that was put together steps as the one that it is
+module _ (M N : Machine) (base : ℕ) (l : List ℕ) (e : Event) (is : N ≡ M) where
+  pub packed-step : (t : Stepped) → t ≡ stepOf N (lent base l) e .stepped → t ≡ stepOf M (lent base l) e .stepped
+  packed-step t q = q ∙ rw is
+
+  pub packed-bytes : (l′ : List ℕ) → l′ ≡ stepOf N (lent base l) e .memory .bytes → l′ ≡ stepOf M (lent base l) e .memory .bytes
+  packed-bytes l′ q = q ∙ rw is
+
+-- a machine's parts are that machine
+pub parts-are : (M : Machine) (p : Parts) (rg : Range) (ks ls : List ℕ) → Unpacked M p → rg ≡ rangeOf (M .cache) → tlbOf ks ls ≡ M .sys .vm .tlb
+    → machineOf rg (M .sys .regions) p (arrays ks ls (M .reg) (M .cache .i .tags) (M .cache .d .tags)) ≡ M
+parts-are M p rg ks ls u h t = rw h (u ks ls t)
 
 -- the count of the next event fits where the number of events does
 pub next-fits : (k n : ℕ) → k < n → n < 2 ^ 32 → Fits w32 (k + 1)

@@ -1,4 +1,6 @@
 pub mod State
 pub mod Access
 pub mod Event
+pub mod Totals
+pub mod InPlace
 pub mod Run

@@ -44,7 +44,7 @@ fn present(cache: L1Cache, access: Access, pa: u32) -> CacheAccess
     }
 }
 
-fn read_outcome(answer: DataRead) -> Outcome
+pub(crate) fn read_outcome(answer: DataRead) -> Outcome
     ensures { λ r. ⌜ r ≡ readOutcome answer ⌝ }
 {
     match answer {
@@ -54,7 +54,7 @@ fn read_outcome(answer: DataRead) -> Outcome
     }
 }
 
-fn write_outcome(answer: DataWritten) -> Outcome
+pub(crate) fn write_outcome(answer: DataWritten) -> Outcome
     ensures { λ r. ⌜ r ≡ writeOutcome answer ⌝ }
 {
     match answer {

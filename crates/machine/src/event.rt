@@ -18,7 +18,7 @@ pub struct Stepped {
     pub line: Line,
 }
 
-fn line_of(outcome: Outcome, stall: u32, reads: u32) -> Line
+pub(crate) fn line_of(outcome: Outcome, stall: u32, reads: u32) -> Line
     ensures { λ r. ⌜ r ≡ lineOf outcome stall reads ⌝ }
 {
     match outcome {
@@ -61,7 +61,7 @@ fn show_access(accessed: Accessed) -> Stepped
     }
 }
 
-fn shown_output(out: IrqOutput) -> u32
+pub(crate) fn shown_output(out: IrqOutput) -> u32
     ensures { λ r. ⌜ r ≡ shown out ⌝ }
 {
     if out.valid {

@@ -2,5 +2,8 @@
 // its events and its runs. It stands on the contracts of the parts.
 pub mod access;
 pub mod event;
+pub mod in_place;
+pub mod parts;
 pub mod run;
 pub mod state;
+pub mod totals;

@@ -5,6 +5,8 @@ ghost use lib.ListN.{length};
 ghost use Rattle.memory.specs.Memory.{lent, goodMap, byteAt, inside, putByte, readAt, wordSpots};
 use common::be_word;
 
+pub mod span;
+
 // One past the last physical address that a map may have.
 pub const MAP_END: u64 = 0xFFFF_0000;
 

@@ -18,11 +18,15 @@ module _ (z : Slot) (vpn : ℕ) (l : List TlbEntry) (i : ℕ) (p : z ≡ firstMa
   unfolding firstMatch
   none-left h = sym (p ∙ rw (drop-of-length-le l h))
 
+  pub match-here : i < length l → matches vpn (getD l i noEntry) ≡ true → At i ≡ z
+  unfolding firstMatch
+  match-here h e = sym (p ∙ rw (drop-cons l i noEntry h, e))
+
   pub found-here : i < length l → getD l i noEntry .valid ≡ true → getD l i noEntry .vpn ≡ vpn → At i ≡ z
   unfolding firstMatch matches
   found-here h v e = sym (p ∙ rw (drop-cons l i noEntry h, v, eq-eqb (getD l i noEntry .vpn) vpn e))
 
-  next : i < length l → matches vpn (getD l i noEntry) ≡ false → z ≡ firstMatch vpn (i + 1) (drop (i + 1) l)
+  pub next : i < length l → matches vpn (getD l i noEntry) ≡ false → z ≡ firstMatch vpn (i + 1) (drop (i + 1) l)
   unfolding firstMatch
   next h e = p ∙ rw (drop-cons l i noEntry h, e, add-one)
 

@@ -1,6 +1,8 @@
 pub mod Exception
 pub mod Tlb
 pub mod Vm
+pub mod Words
+pub mod FlushLent
 pub mod Walk
 pub mod Check
 pub mod Opened

@@ -39,7 +39,7 @@ fn grants(entry: TlbEntry, access: Access) -> bool
     entry.ppn << 12 < CPU_RESERVED_BASE
 }
 
-fn fault(access: Access, protection: bool, addr: u32) -> Verdict
+pub(crate) fn fault(access: Access, protection: bool, addr: u32) -> Verdict
     ensures { λ r. ⌜ r ≡ faulted access protection addr ⌝ }
 {
     Verdict::Denied(Exception::PageFault {
@@ -49,7 +49,7 @@ fn fault(access: Access, protection: bool, addr: u32) -> Verdict
     })
 }
 
-fn judge(entry: TlbEntry, access: Access, va: u32) -> Verdict
+pub(crate) fn judge(entry: TlbEntry, access: Access, va: u32) -> Verdict
     ensures { λ r. ⌜ r ≡ judged entry access va ⌝ }
 {
     if grants(entry, access) {

@@ -5,9 +5,11 @@ ghost use Rattle.mmu.specs.Meaning.{Meaning, Corners};
 
 pub mod check;
 pub mod exception;
+pub mod flush_lent;
 pub mod tlb;
 pub mod vm;
 pub mod walk;
+pub mod words;
 
 // What the contracts mean: document 01's sentences on the MMU.
 pub fn meaning()

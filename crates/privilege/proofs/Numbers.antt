@@ -93,7 +93,7 @@ bool-number true = refl
 bool-number false = refl
 
 -- PTBR without its low 12 bits
-page-start : (v : ℕ) → v < 2 ^ 32 → bitAnd v 0xFFFF_F000 ≡ v / 4096 * 4096
+pub page-start : (v : ℕ) → v < 2 ^ 32 → bitAnd v 0xFFFF_F000 ≡ v / 4096 * 4096
 page-start v h = let z : v / 4096 % 2 ^ 20 ≡ v / 4096 = omega arith in and-high v 20 12 ∙ rw z
 
 -- the registers of translation

@@ -1,8 +1,11 @@
 pub mod Addresses
 pub mod State
 pub mod Trap
+pub mod Lent
+pub mod Run
 pub mod Region
 pub mod Registers
+pub mod RegistersLent
 pub mod Access
 pub mod Transfer
 pub mod Debug

@@ -25,6 +25,7 @@ use Rattle.privilege.specs.declared.registers.SrRead.{SrRead}
 use Rattle.privilege.specs.declared.registers.SrRead.the-variants as read
 use Rattle.privilege.specs.declared.registers.SrAnswer.the-variants as answer
 use Rattle.privilege.specs.declared.registers.SrWritten.{SrWritten}
+pub mod Laws
 
 -- "0x10 + 4n + 0, 1, 2 region n START, END, FLAGS (n 0 to 7)"
 unfoldable pub regionField : ℕ → RegionField

@@ -43,7 +43,7 @@ pub fn data_size(size: u32) -> bool
     fetch_size(size)
 }
 
-fn legal_size(size: u32, access: Access) -> bool
+pub(crate) fn legal_size(size: u32, access: Access) -> bool
     ensures { λ r. ⌜ r ≡ legalSize access size ⌝ }
 {
     match access {
@@ -53,7 +53,7 @@ fn legal_size(size: u32, access: Access) -> bool
     }
 }
 
-fn permission_of(verdict: Verdict) -> Permission
+pub(crate) fn permission_of(verdict: Verdict) -> Permission
     ensures { λ r. ⌜ r ≡ permissionOf verdict ⌝ }
 {
     match verdict {

@@ -8,8 +8,11 @@ ghost use Rattle.privilege.specs.Meaning.{Meaning};
 
 pub mod check;
 pub mod debug;
+pub mod lent;
 pub mod region;
 pub mod registers;
+pub mod registers_lent;
+pub mod run;
 pub mod state;
 pub mod transfer;
 pub mod trap;

@@ -34,7 +34,7 @@ pub const SR_TLBFLUSH: u16 = 0x43;
 
 pub const SR_TLBINV: u16 = 0x44;
 
-const VCTL_EN: u32 = 1;
+pub const VCTL_EN: u32 = 1;
 
 pub enum SrRead {
     Value(u32),

@@ -39,7 +39,7 @@ pub struct SystemState {
     pub vm: Vm,
 }
 
-fn is_short(mode: InstructionMode) -> bool
+pub(crate) fn is_short(mode: InstructionMode) -> bool
     ensures { λ r. ⌜ r ≡ isShort mode ⌝ }
 {
     match mode {
@@ -59,7 +59,7 @@ pub fn mode_of(short: bool) -> InstructionMode
 }
 
 // A bit of a word, if it is on.
-fn bit_if(on: bool, bit: u32) -> u32
+pub(crate) fn bit_if(on: bool, bit: u32) -> u32
     ensures { λ r. ⌜ r ≡ bitIf on bit ⌝ }
 {
     if on { bit } else { 0 }

@@ -61,7 +61,7 @@ fn and(a: bool, b: bool) -> bool
     if a { b } else { false }
 }
 
-fn read_of(content: Content) -> DataRead
+pub(crate) fn read_of(content: Content) -> DataRead
     ensures { λ r. ⌜ r ≡ readOf content ⌝ }
 {
     match content {

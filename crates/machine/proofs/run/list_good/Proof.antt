@@ -25,7 +25,7 @@ same-length-2 c = search needs
 returns : tie.Need-returns
 returns c =
     let a = c .before .before .before .before .before .before .before .before .before .before .before .before .before .before .before .before .args in
-    good-run _ _ _ _ _ _ (a .mem .now) (c .before .before .before .before .before .before .before .new .ensures) (c .before .before .before .before .before .before .before .before .before .before .copy-image .ensures) (c .before .before .before .before .before .before .before .before .before .before .before .before .before .before .before .before .pre) (c .before .before .before .before .run .ensures .1 .1)
+    good-run _ _ _ _ _ _ (a .mem .now) (c .before .before .before .before .before .before .before .new .ensures) (c .before .before .before .before .before .before .before .before .before .before .copy-image .ensures) (c .before .before .before .before .before .before .before .before .before .before .before .before .before .before .before .before .pre) (c .before .before .before .before .run .ensures .1 .1 .0)
 
 pub list-good-spec : {M : Type 1} → statement M
 list-good-spec =

@@ -1,0 +1,38 @@
+-- `machine::in_place::register_event` meets its contract: R0 to R31 are set where they stand. Assumes nothing.
+use Rattle.machine.proofs.StateEvents.{shows-register, elsewhere-shows}
+use borrow.Author.Needs.{needs}
+use Rattle.machine.proofs.in_place.register_event.Statement.{statement}
+use Rattle.machine.proofs.in_place.register_event.Tie as tie
+
+cast-index : tie.Need-cast-index
+cast-index c = search needs
+
+mul-reg : tie.Need-mul-reg
+mul-reg c = search needs
+
+element-write-reg : tie.Need-element-write-reg
+element-write-reg c = search needs
+
+shows-requires : tie.Need-shows-requires
+shows-requires c κs = search needs
+
+returns : tie.Need-returns
+returns c = search (shows-register, needs)
+
+elsewhere-requires : tie.Need-elsewhere-requires
+elsewhere-requires c κs = search needs
+
+returns-2 : tie.Need-returns-2
+returns-2 c = search (elsewhere-shows, needs)
+
+pub register-event-spec : {M : Type 1} → statement M
+register-event-spec =
+    tie.close
+    (tie.spec
+    cast-index
+    mul-reg
+    element-write-reg
+    shows-requires
+    returns
+    elsewhere-requires
+    returns-2)
