@@ -95,7 +95,7 @@ fn with_window(path: &Path, name: &str) -> PathBuf {
 }
 
 /// Programs that call the port through `libbridge.a`.
-const BRIDGED: [&str; 2] = ["beside", "fuzz"];
+const BRIDGED: [&str; 3] = ["beside", "fuzz", "race"];
 
 /// The port's static libraries are made by `rt staticlib NAME` below the repository's target folder,
 /// or stand in the folder that PORT names.

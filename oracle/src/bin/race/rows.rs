@@ -1,0 +1,186 @@
+//! The rows of the table that are runs over events: what each does, and what it is to take.
+
+use oracle::event::Event;
+use oracle::machine::{
+    KIND_CLEAR, KIND_ENABLE, KIND_FETCH, KIND_IRET, KIND_LOAD, KIND_OUTPUT, KIND_SOURCE,
+    KIND_STORE, KIND_TRAP,
+};
+use oracle::script::PAGE;
+
+use crate::mix::mix;
+use crate::sides::{place, port, port_by_value, Side};
+use crate::work::{event, regions, scene, translated, Work, DATA, MAPPED, VIRTUAL};
+
+pub struct Row {
+    pub name: &'static str,
+    /// What share of the count is run, where an event takes longer.
+    share: u32,
+    work: fn(u32) -> Vec<Work>,
+    pub port: Side,
+    /// The port's time over the Rust's.
+    pub target: f64,
+}
+
+impl Row {
+    pub fn work(&self, count: u32) -> Vec<Work> {
+        (self.work)((count / self.share).max(1))
+    }
+}
+
+const fn row(name: &'static str, target: f64, share: u32, work: fn(u32) -> Vec<Work>) -> Row {
+    Row {
+        name,
+        share,
+        work,
+        port,
+        target,
+    }
+}
+
+/// A row whose port side is one by-value call an event.
+const fn call(name: &'static str, work: fn(u32) -> Vec<Work>) -> Row {
+    Row {
+        name,
+        share: 50,
+        work,
+        port: port_by_value,
+        target: 1.0,
+    }
+}
+
+pub const ROWS: [Row; 12] = [
+    row("loads", 0.35, 1, loads),
+    row("stores", 0.5, 1, stores),
+    row("fetches", 0.5, 1, fetches),
+    row("misses", 1.0, 5, misses),
+    row("regions", 1.0, 1, region_loads),
+    row("supervisor", 1.0, 1, supervisor),
+    row("controller", 1.0, 1, controller),
+    row("traps", 1.0, 1, traps),
+    row("mix", 1.0, 10, mix),
+    call("load-call", loads),
+    call("store-call", stores),
+    call("fetch-call", fetches),
+];
+
+/// Events after a set-up, over the scene.
+fn over_scene(set_up: Vec<Event>, count: u32, each: fn(u32) -> Event) -> Vec<Work> {
+    let events = set_up.into_iter().chain((0..count).map(each));
+    vec![Work::new(scene(), events)]
+}
+
+/// Resident after their first touch: twelve pages, sixteen slots.
+pub fn loads(count: u32) -> Vec<Work> {
+    over_scene(translated(), count, |i| {
+        event(KIND_LOAD, 4, 0, VIRTUAL + place(i), 0)
+    })
+}
+
+fn stores(count: u32) -> Vec<Work> {
+    over_scene(translated(), count, |i| {
+        event(KIND_STORE, 4, 0, VIRTUAL + place(i), i)
+    })
+}
+
+fn fetches(count: u32) -> Vec<Work> {
+    over_scene(translated(), count, |i| {
+        event(KIND_FETCH, 4, 0, VIRTUAL + place(i), 0)
+    })
+}
+
+/// One page more than there are slots, in turn: slots are refilled in turn too, so each load walks.
+fn misses(count: u32) -> Vec<Work> {
+    over_scene(translated(), count, |i| {
+        let page = VIRTUAL + i % MAPPED * PAGE;
+        event(KIND_LOAD, 4, 0, page + i % (PAGE / 4) * 4, 0)
+    })
+}
+
+fn region_loads(count: u32) -> Vec<Work> {
+    over_scene(regions(), count, |i| {
+        event(KIND_LOAD, 4, 0, DATA + place(i), 0)
+    })
+}
+
+fn supervisor(count: u32) -> Vec<Work> {
+    over_scene(Vec::new(), count, |i| {
+        event(KIND_LOAD, 4, 0, DATA + place(i), 0)
+    })
+}
+
+/// Crossings on all sixteen lines: a source rises, the output is asked, the source is cleared and falls.
+fn controller(count: u32) -> Vec<Work> {
+    let enable = vec![event(KIND_ENABLE, 0, u16::MAX, 0, 0)];
+    over_scene(enable, count, |i| {
+        let line = (i / 4 % 16) as u16;
+        match i % 4 {
+            0 => event(KIND_SOURCE, 1, line, 0, 0),
+            1 => event(KIND_OUTPUT, 0, 0, 0, 0),
+            2 => event(KIND_CLEAR, 0, 1 << line, 0, 0),
+            _ => event(KIND_SOURCE, 0, line, 0, 0),
+        }
+    })
+}
+
+/// Out of user mode and back, R28 to R30 exchanged each time.
+fn traps(count: u32) -> Vec<Work> {
+    over_scene(translated(), count, |i| match i % 2 {
+        0 => event(KIND_TRAP, 0, (i / 2 % 2) as u16, i, 7),
+        _ => event(KIND_IRET, 0, 0, 0, 0),
+    })
+}
+
+#[cfg(test)]
+mod tests {
+    use super::{Row, ROWS};
+    use crate::sides::{published, Totals};
+
+    const COUNT: u32 = 10_000;
+
+    fn totals(name: &str) -> (u32, Totals) {
+        let row: &Row = ROWS.iter().find(|row| row.name == name).expect("a row");
+        let works = row.work(COUNT * row.share);
+        (works[0].count(), published(&works[0]).totals)
+    }
+
+    /// Nothing is refused or denied, so each row measures what it is named after.
+    #[test]
+    fn accesses_answer_values() {
+        for name in ["loads", "stores", "fetches", "misses", "traps"] {
+            let (events, totals) = totals(name);
+            assert_eq!(totals.values, u64::from(events), "{name}");
+        }
+    }
+
+    /// Twelve pages are walked for once. The last loads find twelve of the seventeen pages resident.
+    #[test]
+    fn loads_are_resident() {
+        assert_eq!(totals("loads").1.reads, 2 * (12 + 5));
+    }
+
+    /// Ten thousand loads end before page 4, so the last ones, from page 0 on, find four pages resident.
+    #[test]
+    fn each_miss_walks() {
+        assert_eq!(totals("misses").1.reads, 2 * u64::from(COUNT + 13));
+    }
+
+    /// Only the last loads, which are of addresses that mean nothing there, are denied or go nowhere.
+    #[test]
+    fn region_and_supervisor_loads_pass() {
+        assert_eq!(totals("regions").1.exceptions, 17);
+        assert_eq!(totals("supervisor").1.bus_errors, 17);
+    }
+
+    #[test]
+    fn the_mix_has_every_letter() {
+        let (_, totals) = totals("mix");
+        for letters in [
+            totals.values,
+            totals.exceptions,
+            totals.bus_errors,
+            totals.refusals,
+        ] {
+            assert!(letters > 0);
+        }
+    }
+}
