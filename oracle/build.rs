@@ -94,8 +94,13 @@ fn with_window(path: &Path, name: &str) -> PathBuf {
     compiled
 }
 
-/// Programs that call the port through `libbridge.a`.
-const BRIDGED: [&str; 3] = ["beside", "fuzz", "race"];
+/// Programs that call the port, each with a static library that it wants.
+const LINKED: [(&str, &str); 4] = [
+    ("beside", "bridge"),
+    ("fuzz", "bridge"),
+    ("race", "bridge"),
+    ("race", "race"),
+];
 
 /// The port's static libraries are made by `rt staticlib NAME` below the repository's target folder,
 /// or stand in the folder that PORT names.
@@ -104,15 +109,15 @@ fn link_port(home: &Path) {
     let named = env::var_os("PORT").map(PathBuf::from);
     let folder = named.unwrap_or_else(|| home.join("../target/staticlib"));
     println!("cargo:rustc-link-search=native={}", folder.display());
-    let library = folder.join("libbridge.a");
-    println!("cargo:rerun-if-changed={}", library.display());
-    for name in BRIDGED {
-        println!("cargo:rustc-link-arg-bin={name}={}", library.display());
-    }
-    if !library.exists() {
-        println!(
-            "cargo:warning=target/staticlib/libbridge.a is missing: rt staticlib bridge makes it"
-        );
+    for (program, name) in LINKED {
+        let library = folder.join(format!("lib{name}.a"));
+        println!("cargo:rerun-if-changed={}", library.display());
+        println!("cargo:rustc-link-arg-bin={program}={}", library.display());
+        if !library.exists() {
+            println!(
+                "cargo:warning={program} wants target/staticlib/lib{name}.a: rt staticlib {name} makes it"
+            );
+        }
     }
 }
 

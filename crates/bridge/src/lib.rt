@@ -5,4 +5,3 @@ pub mod irqc_calls;
 pub mod machine_calls;
 pub mod mmu_calls;
 pub mod privilege_calls;
-pub mod race_calls;

@@ -5,7 +5,7 @@ use mathlib.Core.List.{[]}
 use Rattle.cache.specs.Bank.{newBank}
 use Rattle.cache.specs.RegistersLent.{noCounts}
 use Rattle.cache.specs.declared.L1Cache.{L1Cache}
-use Rattle.contracts.proofs.Lent.{noRange, touched, snooped, banks, found-same, flush-open, status-same, trap-same, return-same, checked-same, written-same}
+use Rattle.contracts.proofs.Lent.{noRange, touched, snooped, banks, found-same, flush-open, status-same, trap-same, return-same, checked-same}
 use Rattle.contracts.proofs.Shapes.{answer, content, both, text, next}
 use Rattle.mmu.specs.Vm.{newVm}
 use Rattle.contracts.specs.Contracts.{Contracts}
@@ -22,6 +22,7 @@ use Rattle.contracts.specs.Script.{Script}
 use Rattle.contracts.specs.Listing.{Listing}
 use Rattle.contracts.specs.Machine.{Machine}
 use Rattle.contracts.specs.Bridge.{Bridge, BridgeLent}
+use Rattle.contracts.specs.Race.{Race}
 
 common-settled : Common
 common-settled = search answer
@@ -93,6 +94,7 @@ mmu-settled = search answer
 mmu-lent-settled : MmuLent
 mmu-lent-settled = record {
   words-of = record { agree = λ p q. p .0 ∙ sym (q .0) };
+  put-tlb = record { agree = λ p q. p .0 ∙ sym (q .0) };
   tlb-of = record { coincide = answer };
   check-lent = record { agree = λ p q. found-same _ _ _ _ _ _ p q };
   flush-lent = record { agree = λ p q six. p six .0 ∙ sym (q six .0) };
@@ -115,6 +117,7 @@ privilege-settled = record {
   region-field = record { coincide = answer };
   read-sr = record { coincide = answer };
   write-sr = record { coincide = answer };
+  is-short = record { coincide = answer };
   mode-of = record { coincide = answer };
   new = record { coincide = answer };
   status = record { coincide = answer };
@@ -135,9 +138,12 @@ privilege-lent-settled = record {
   state-of = record { coincide = answer };
   enter-trap = record { coincide = λ p q. next (trap-same (p [] newVm ∙ sym (q [] newVm))) };
   leave-trap = record { coincide = λ p q. next (return-same (p [] newVm ∙ sym (q [] newVm))) };
-  check-access-lent = record { agree = λ p q. checked-same _ _ _ _ _ _ _ _ _ p q };
+  regions-of = record { coincide = answer };
+  put-regions = record { coincide = λ p q. content (p .0) (q .0) };
+  check-access-lent = record { agree = λ p q six page. checked-same _ _ _ _ _ (p six page) (q six page) };
+  check-apart = record { agree = λ p q six. checked-same _ _ _ _ _ (p six) (q six) };
   read-sr-lent = record { coincide = λ p q. answer (p []) (q []) };
-  write-sr-lent = record { agree = λ p q six. written-same (p six) (q six) };
+  write-sr-lent = record { agree = λ p q six. p six .0 ∙ sym (q six .0) };
   read-run = record { coincide = answer };
   write-run = record { coincide = both };
 }
@@ -201,8 +207,10 @@ bridge-lent-settled : BridgeLent
 bridge-lent-settled = record {
   machine-step = record { coincide = λ p q. next (both p q) };
   machine-list = record { coincide = λ p q. next (text p q) };
-  race-run = record { coincide = both };
 }
+
+race-settled : Race
+race-settled = record { race-run = record { coincide = both } }
 
 pub all-settled : Contracts
 all-settled = record {
@@ -223,6 +231,7 @@ all-settled = record {
   machine = machine-settled;
   bridge = bridge-settled;
   bridge-lent = bridge-lent-settled;
+  race = race-settled;
   loose = λ κs a m settled. false≢true (λ i. settled .coincide {κs = κs} {a = a} {r = false} {r′ = true} {m = m} {m′ = m} tt tt i .0);
   theorems = record { coincide = λ p q. refl };
   open-words = flush-open;

@@ -4,7 +4,7 @@
 --   touched, snooped, banks  == the cache's: an access, a store's snoop, both banks
 --   found-same, flush-open   == on the TLB's words: the page check's, and that a flush leaves the words open
 --   status-same, trap-same, return-same == the privilege state's scalars, alone and with the registers
---   checked-same, written-same == the access check's and the system register write's on the TLB's words
+--   checked-same             == the access check's on the TLB's words
 use Prim.Native.Nat.{ℕ, _*_, _/_, _^_, _<_}
 use mathlib.Core.Path.{_≡_, refl, sym, ap, _∙_}
 use mathlib.Core.List.{List, _∷_}
@@ -32,20 +32,18 @@ use Rattle.mmu.specs.declared.tlb.TlbEntry.{TlbEntry}
 use Rattle.mmu.specs.declared.vm.Vm.{Vm}
 use Rattle.mmu.specs.declared.words.Control.{Control}
 use Rattle.mmu.specs.declared.words.Found.{Found}
-use Rattle.privilege.specs.Lent.{stateOf, InPage, Checks}
-use Rattle.privilege.specs.RegistersLent.{Wrote}
+use Rattle.privilege.specs.Lent.{stateOf, Comes}
 use Rattle.privilege.specs.Transfer.{physicalOf}
 use Rattle.privilege.specs.declared.check.AccessChecked.{AccessChecked}
 use Rattle.privilege.specs.declared.lent.Permitted.{Permitted}
 use Rattle.privilege.specs.declared.lent.Status.{Status}
 use Rattle.privilege.specs.declared.region.Region.{Region}
-use Rattle.privilege.specs.declared.«registers_lent».SrLent.{SrLent}
 use Rattle.privilege.specs.declared.state.InstructionMode.{InstructionMode}
 use Rattle.privilege.specs.declared.trap.Returned.{Returned}
 use Rattle.privilege.specs.declared.trap.Trapped.{Trapped}
 use Rattle.contracts.specs.Settled.{Settled}
 use Rattle.contracts.specs.Mmu.{SameFound}
-use Rattle.contracts.specs.Privilege.{SameChecked, SameWritten}
+use Rattle.contracts.specs.Privilege.{SameChecked}
 use Rattle.contracts.proofs.Shapes.{both}
 
 -- ---- the cache
@@ -144,28 +142,15 @@ module _ {r r′ : Status} {reg reg′ : List ℕ} {regions : List Region} {vm :
       → _≡_ {A = Status × (List ℕ × M)} (r, (reg, m)) (r′, (reg′, m))
   return-same e = both (status-same (ap (λ (x : Returned). x .sys) e), ap (λ (x : Returned). x .reg) e) (refl, refl)
 
-pub checked-same : (m : Memory) (s : Status) (c : Control) (rs : List Region) (ks ls : List ℕ) (a n : ℕ) (k : Access) {r r′ : Permitted} {ks′ ls′ ks″ ls″ : List ℕ}
-    → Checks m s c rs ks ls a n k r ks′ ls′ → Checks m s c rs ks ls a n k r′ ks″ ls″
-    → Sixteen ks ls → InPage a n → SameChecked s c rs r ks′ ls′ r′ ks″ ls″
-checked-same m s c rs ks ls a n k p q six page =
-    let same = p six page .0 ∙ sym (q six page .0) in
+-- two answers that one check comes to
+pub checked-same : (x : AccessChecked) (s : Status) (c : Control) (rs : List Region) (a : ℕ) {r r′ : Permitted} {ks ls ks′ ls′ : List ℕ}
+    → Comes x s c rs a r ks ls → Comes x s c rs a r′ ks′ ls′ → SameChecked s c rs r ks ls r′ ks′ ls′
+checked-same x s c rs a p q =
+    let same = p .0 ∙ sym (q .0) in
     record {
       checked = same;
       place = λ ok.
-          sym (p six page .1 ok)
+          sym (p .1 ok)
           ∙ ap (λ (x : AccessChecked). physicalOf (x .sys) a) same
-          ∙ q six page .1 (sym (ap (λ (x : AccessChecked). x .permission) same) ∙ ok);
-    }
-
-pub written-same : {s : Status} {c : Control} {ks ls reg : List ℕ} {sr v : ℕ} {r r′ : SrLent} {ks′ ls′ reg′ ks″ ls″ reg″ : List ℕ}
-    → Wrote s c ks ls reg sr v r ks′ ls′ reg′ → Wrote s c ks ls reg sr v r′ ks″ ls″ reg″ → SameWritten r ks′ ls′ reg′ r′ ks″ ls″ reg″
-written-same p q =
-    let decided = p .place ∙ sym (q .place) in
-    record {
-      decided = decided;
-      left = λ t regions. p .writes t regions ∙ sym (q .writes (sym decided ∙ t) regions);
-      kept = λ t.
-          let k = p .keeps t in
-          let l = q .keeps (sym decided ∙ t) in
-          (k .0 ∙ sym (l .0), k .1 ∙ sym (l .1), k .2 ∙ sym (l .2), k .3 ∙ sym (l .3), k .4 ∙ sym (l .4));
+          ∙ q .1 (sym (ap (λ (x : AccessChecked). x .permission) same) ∙ ok);
     }

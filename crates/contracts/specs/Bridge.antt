@@ -44,4 +44,3 @@ pub record Bridge : Type 0 where
 pub record BridgeLent : Type 0 where
   pub machine-step : Settled bridge.machine_calls.machine_step.ended bridge.machine_calls.machine_step.Reads.Learnt
   pub machine-list : Settled bridge.machine_calls.machine_list.ended bridge.machine_calls.machine_list.Reads.Learnt
-  pub race-run : Settled bridge.race_calls.race_run.ended bridge.race_calls.race_run.Reads.Learnt

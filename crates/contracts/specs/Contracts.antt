@@ -18,6 +18,7 @@ use Rattle.contracts.specs.Script.{Script}
 use Rattle.contracts.specs.Listing.{Listing}
 use Rattle.contracts.specs.Machine.{Machine}
 use Rattle.contracts.specs.Bridge.{Bridge, BridgeLent}
+use Rattle.contracts.specs.Race.{Race}
 
 pub record Contracts : Type 0 where
   pub common : Common
@@ -37,6 +38,7 @@ pub record Contracts : Type 0 where
   pub machine : Machine
   pub bridge : Bridge
   pub bridge-lent : BridgeLent
+  pub race : Race
   -- a function that only promises, as `meaning`: already the contract that says nothing admits one outcome
   pub theorems : Settled theorem (λ κs a r e. Unit {0})
   -- the statement has content: a contract that says nothing of `put_byte` is not settled

@@ -12,4 +12,5 @@ pub mod Script
 pub mod Listing
 pub mod Machine
 pub mod Bridge
+pub mod Race
 pub mod Contracts

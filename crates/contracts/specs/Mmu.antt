@@ -37,6 +37,9 @@ pub record SameFound (c : Control) (r : Found) (ks ls : List ℕ) (r′ : Found)
 -- that an address is below 2^32, the types of the arrays and of the number say.
 pub record MmuLent : Type 0 where
   pub words-of : SettledAs mmu.words.words_of.ended mmu.words.words_of.Reads.Learnt (λ κs a o o′. tlbOf (o .0 .keys) (o .0 .leaves) ≡ tlbOf (o′ .0 .keys) (o′ .0 .leaves))
+  pub put-tlb :
+      SettledAs mmu.words.put_tlb.ended mmu.words.put_tlb.Reads.Learnt
+      (λ κs a o o′. tlbOf (o .1 .0) (o .1 .1 .0) ≡ tlbOf (o′ .1 .0) (o′ .1 .1 .0))
   pub tlb-of : Settled mmu.words.tlb_of.ended mmu.words.tlb_of.Reads.Learnt
   -- its arguments: keys, leaves, control, memory, base, address, access
   pub check-lent :

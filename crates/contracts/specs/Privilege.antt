@@ -1,20 +1,19 @@
 -- The privilege state: two outcomes that a contract of `privilege` admits coincide (`Settled.antt`).
 use Prim.Native.Nat.{ℕ}
 use mathlib.Core.Path.{_≡_}
-use mathlib.Core.Bool.{true, false}
 use mathlib.Core.List.{List}
 use Rattle.contracts.specs.Settled.{Settled, SettledAs}
 use Rattle.mmu.specs.Words.{Sixteen}
 use Rattle.mmu.specs.declared.words.Control.{Control}
 use Rattle.privilege.proofs as privilege
 use Rattle.privilege.specs.Lent.{InPage, afterwards}
+use Rattle.privilege.specs.RegionWords.{regionsOf}
 use Rattle.privilege.specs.RegistersLent.{leftBy}
 use Rattle.privilege.specs.declared.check.AccessChecked.{AccessChecked}
 use Rattle.privilege.specs.declared.check.Permission.the-variants.{Allowed}
 use Rattle.privilege.specs.declared.lent.Permitted.{Permitted}
 use Rattle.privilege.specs.declared.lent.Status.{Status}
 use Rattle.privilege.specs.declared.region.Region.{Region}
-use Rattle.privilege.specs.declared.«registers_lent».SrLent.{SrLent}
 
 pub record Privilege : Type 0 where
   pub data-size : Settled privilege.check.data_size.ended privilege.check.data_size.Reads.Learnt
@@ -31,6 +30,7 @@ pub record Privilege : Type 0 where
   pub region-field : Settled privilege.registers.region_field.ended privilege.registers.region_field.Reads.Learnt
   pub read-sr : Settled privilege.state.SystemState.read_sr.ended privilege.state.SystemState.read_sr.Reads.Learnt
   pub write-sr : Settled privilege.state.SystemState.write_sr.ended privilege.state.SystemState.write_sr.Reads.Learnt
+  pub is-short : Settled privilege.state.is_short.ended privilege.state.is_short.Reads.Learnt
   pub mode-of : Settled privilege.state.mode_of.ended privilege.state.mode_of.Reads.Learnt
   pub new : Settled privilege.state.SystemState.new.ended privilege.state.SystemState.new.Reads.Learnt
   pub status : Settled privilege.state.SystemState.status.ended privilege.state.SystemState.status.Reads.Learnt
@@ -48,36 +48,38 @@ pub record Privilege : Type 0 where
 abbrev pub checkedAs : Status → Control → List Region → Permitted → List ℕ → List ℕ → AccessChecked
 checkedAs s c rs r ks ls = record { sys = afterwards s c rs r ks ls; permission = r .permission; reads = r .reads }
 
--- `check_access`: permission, walk reads and the state are fixed, and the first byte's place where the access is allowed
+-- `check_access` and `check_apart`: permission, walk reads and the state are fixed, and the first byte's place where the access is allowed
 pub record SameChecked (s : Status) (c : Control) (rs : List Region) (r : Permitted) (ks ls : List ℕ) (r′ : Permitted) (ks′ ls′ : List ℕ) : Type 0 where
   pub checked : checkedAs s c rs r ks ls ≡ checkedAs s c rs r′ ks′ ls′
   pub place : r .permission ≡ Allowed → r .pa ≡ r′ .pa
 
--- `write_sr_lent`: whether the write is done is fixed; then the state, the registers and the answer, and else everything but the answer
-pub record SameWritten (r : SrLent) (ks ls reg : List ℕ) (r′ : SrLent) (ks′ ls′ reg′ : List ℕ) : Type 0 where
-  pub decided : r .done ≡ r′ .done
-  pub left : r .done ≡ true → (regions : List Region) → leftBy r regions ks ls reg ≡ leftBy r′ regions ks′ ls′ reg′
-  pub kept : r .done ≡ false → (r .status ≡ r′ .status) × (r .control ≡ r′ .control) × (ks ≡ ks′) × (ls ≡ ls′) × (reg ≡ reg′)
-
--- where the registers and the TLB's words stand
+-- where the registers and the words of regions and TLB stand
 pub record PrivilegeLent : Type 0 where
   pub status-of : Settled privilege.lent.status_of.ended privilege.lent.status_of.Reads.Learnt
   pub state-of : Settled privilege.lent.state_of.ended privilege.lent.state_of.Reads.Learnt
   pub enter-trap : Settled privilege.lent.enter_trap.ended privilege.lent.enter_trap.Reads.Learnt
   pub leave-trap : Settled privilege.lent.leave_trap.ended privilege.lent.leave_trap.Reads.Learnt
+  pub regions-of : Settled privilege.region_words.regions_of.ended privilege.region_words.regions_of.Reads.Learnt
+  pub put-regions : Settled privilege.region_words.put_regions.ended privilege.region_words.put_regions.Reads.Learnt
   -- its arguments: status, control, regions, keys, leaves, memory, base, address, length, access
   pub check-access-lent :
       SettledAs privilege.lent.check_access.ended privilege.lent.check_access.Reads.Learnt
       (λ κs a o o′.
       Sixteen (a .1 .1 .1 .0 .now) (a .1 .1 .1 .1 .0 .now) →
       InPage (a .1 .1 .1 .1 .1 .1 .1 .0) (a .1 .1 .1 .1 .1 .1 .1 .1 .0) →
-      SameChecked (a .0) (a .1 .0) (a .1 .1 .0) (o .0) (o .1 .1 .1 .1 .0) (o .1 .1 .1 .1 .1 .0) (o′ .0) (o′ .1 .1 .1 .1 .0) (o′ .1 .1 .1 .1 .1 .0))
+      SameChecked (a .0) (a .1 .0) (regionsOf (a .1 .1 .0 .now)) (o .0) (o .1 .1 .1 .1 .0) (o .1 .1 .1 .1 .1 .0) (o′ .0) (o′ .1 .1 .1 .1 .0) (o′ .1 .1 .1 .1 .1 .0))
+  -- with the same arguments
+  pub check-apart :
+      SettledAs privilege.lent.check_apart.ended privilege.lent.check_apart.Reads.Learnt
+      (λ κs a o o′.
+      Sixteen (a .1 .1 .1 .0 .now) (a .1 .1 .1 .1 .0 .now) →
+      SameChecked (a .0) (a .1 .0) (regionsOf (a .1 .1 .0 .now)) (o .0) (o .1 .1 .1 .1 .0) (o .1 .1 .1 .1 .1 .0) (o′ .0) (o′ .1 .1 .1 .1 .0) (o′ .1 .1 .1 .1 .1 .0))
   pub read-sr-lent : Settled privilege.registers_lent.read_sr_lent.ended privilege.registers_lent.read_sr_lent.Reads.Learnt
-  -- its arguments: status, control, keys, leaves, registers, number, value
+  -- its arguments: status, control, regions, keys, leaves, registers, number, value; the state, the registers and the answer are fixed
   pub write-sr-lent :
       SettledAs privilege.registers_lent.write_sr_lent.ended privilege.registers_lent.write_sr_lent.Reads.Learnt
       (λ κs a o o′.
-      Sixteen (a .1 .1 .0 .now) (a .1 .1 .1 .0 .now) →
-      SameWritten (o .0) (o .1 .1 .1 .0) (o .1 .1 .1 .1 .0) (o .1 .1 .1 .1 .1 .0) (o′ .0) (o′ .1 .1 .1 .0) (o′ .1 .1 .1 .1 .0) (o′ .1 .1 .1 .1 .1 .0))
+      Sixteen (a .1 .1 .1 .0 .now) (a .1 .1 .1 .1 .0 .now) →
+      leftBy (o .0) (regionsOf (o .1 .1 .1 .0)) (o .1 .1 .1 .1 .0) (o .1 .1 .1 .1 .1 .0) (o .1 .1 .1 .1 .1 .1 .0) ≡ leftBy (o′ .0) (regionsOf (o′ .1 .1 .1 .0)) (o′ .1 .1 .1 .1 .0) (o′ .1 .1 .1 .1 .1 .0) (o′ .1 .1 .1 .1 .1 .1 .0))
   pub read-run : Settled privilege.run.read_run.ended privilege.run.read_run.Reads.Learnt
   pub write-run : Settled privilege.run.write_run.ended privilege.run.write_run.Reads.Learnt

@@ -2,9 +2,9 @@ pub mod States
 pub mod Accesses
 pub mod Events
 pub mod Moves
+pub mod PartWords
 pub mod Packs
 pub mod StateEvents
-pub mod RegisterEvents
 pub mod Summed
 pub mod StepInPlace
 pub mod Runs

@@ -24,8 +24,8 @@ use Rattle.machine.specs.Event.{stepOf}
 use Rattle.machine.specs.Event.Laws.{step-lent}
 use Rattle.cache.specs.declared.lent.Range.{Range}
 use Rattle.mmu.specs.Words.{tlbOf}
-use Rattle.machine.specs.InPlace.{arrays, machineOf, rangeOf, Unpacked}
-use Rattle.machine.specs.declared.parts.Parts.{Parts}
+use Rattle.privilege.specs.declared.region.Region.{Region}
+use Rattle.machine.specs.Parts.{Parts, rangeOf, arrays, machineOf, Unpacked}
 use Rattle.machine.specs.Run.{Run, after, runFrom, scriptRun, listed, listingOf}
 use Rattle.machine.specs.Run.Laws.{run-lines, run-none, run-next}
 use Rattle.machine.specs.State.{newMachine}
@@ -155,26 +155,10 @@ module _ (n : ℕ) (s : List ℕ) (first base : ℕ) (M₀ M : Machine) (u : M�
   pub end-totals : t ≡ totalsFrom noTotals (runFrom n s first M (lent base l₀) .lines)
   end-totals = rw (← u) (going-totals n s first base R _ k N l out place t g le ge)
 
--- an event that went by value, on a machine that had not moved
-pub value-next : (M N M′ : Machine) (base : ℕ) (l l₁ : List ℕ) (e : Event) (t : Stepped) → t ≡ stepOf N (lent base l₁) e .stepped → (N ≡ M) × (l₁ ≡ l) → M′ ≡ t .machine
-    → record { machine = M′; line = t .line } ≡ stepOf M (lent base l) e .stepped
-value-next M N M′ base l l₁ e t q k u = rw (u, q, k .0, k .1)
-
-pub value-bytes : (M N : Machine) (base : ℕ) (l l₁ l′ : List ℕ) (e : Event) → l′ ≡ stepOf N (lent base l₁) e .memory .bytes → (N ≡ M) × (l₁ ≡ l) → l′ ≡ stepOf M (lent base l) e .memory .bytes
-value-bytes M N base l l₁ l′ e q k = q ∙ rw (k .0, k .1)
-
--- a machine that was put together steps as the one that it is
-module _ (M N : Machine) (base : ℕ) (l : List ℕ) (e : Event) (is : N ≡ M) where
-  pub packed-step : (t : Stepped) → t ≡ stepOf N (lent base l) e .stepped → t ≡ stepOf M (lent base l) e .stepped
-  packed-step t q = q ∙ rw is
-
-  pub packed-bytes : (l′ : List ℕ) → l′ ≡ stepOf N (lent base l) e .memory .bytes → l′ ≡ stepOf M (lent base l) e .memory .bytes
-  packed-bytes l′ q = q ∙ rw is
-
 -- a machine's parts are that machine
-pub parts-are : (M : Machine) (p : Parts) (rg : Range) (ks ls : List ℕ) → Unpacked M p → rg ≡ rangeOf (M .cache) → tlbOf ks ls ≡ M .sys .vm .tlb
-    → machineOf rg (M .sys .regions) p (arrays ks ls (M .reg) (M .cache .i .tags) (M .cache .d .tags)) ≡ M
-parts-are M p rg ks ls u h t = rw h (u ks ls t)
+pub parts-are : (M : Machine) (p : Parts) (rg : Range) (rs : List Region) (ks ls : List ℕ) → Unpacked M p → rg ≡ rangeOf (M .cache) → rs ≡ M .sys .regions
+    → tlbOf ks ls ≡ M .sys .vm .tlb → machineOf rg rs p (arrays ks ls (M .reg) (M .cache .i .tags) (M .cache .d .tags)) ≡ M
+parts-are M p rg rs ks ls u h r t = rw (h, r) (u ks ls t)
 
 -- the count of the next event fits where the number of events does
 pub next-fits : (k n : ℕ) → k < n → n < 2 ^ 32 → Fits w32 (k + 1)

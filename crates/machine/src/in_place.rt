@@ -1,64 +1,76 @@
-// An event's step where the machine's arrays stand. What is not done here is the step by value's.
+// An event's step where the machine's words and arrays stand: nothing is copied but what an access over two pages needs.
 ghost use mathlib.Core.Path.{_≡_};
-ghost use mathlib.Core.Bool.{true, false};
-ghost use mathlib.Core.List.{List};
 ghost use lib.Dec.{leb};
-ghost use Prim.Native.Nat.{ℕ, _+_, _%_, _^_, _<_};
+ghost use Prim.Native.Nat.{_+_, _%_, _^_, _<_};
 ghost use Rattle.memory.specs.Memory.{lent};
 ghost use Rattle.mmu.specs.Words.{withVictim};
-ghost use Rattle.privilege.specs.declared.region.Region.{Region};
-ghost use Rattle.machine.specs.InPlace.{arrays, accessKind, Moves, Accesses, showing, refusing, Shows, RegisterShows, Reads, Writes, CacheShows, StepsInPlace};
+ghost use Rattle.privilege.specs.RegionWords.{regionsOf};
+ghost use Rattle.privilege.specs.Run.{runOf};
+ghost use Rattle.privilege.specs.Transfer.{loadAt};
+ghost use Rattle.machine.specs.Access.{readOutcome};
+ghost use Rattle.machine.specs.Event.{lineOf, trapEvent, returnEvent};
+ghost use Rattle.machine.specs.InPlace.{accessKind, showing, refusing, Asks, Moves, MovesApart, Accesses, InPageAccesses, Shows, RegisterShows, Reads, Writes, Sweeps, CacheWrites, Resetting, States, Steps};
+ghost use Rattle.machine.specs.Parts.{arrays, partsAt, withIrqc};
+ghost use Rattle.machine.specs.declared.state.Machine.{Machine};
 use crate::access::Outcome;
 use crate::access::read_outcome;
 use crate::access::write_outcome;
 use crate::event::line_of;
 use crate::event::shown_output;
-use crate::parts::Parts;
-use crate::parts::with_control;
-use crate::parts::with_d;
-use crate::parts::with_i;
-use crate::parts::with_irqc;
-use crate::parts::with_status;
+use crate::parts::control_in;
+use crate::parts::control_of;
+use crate::parts::d_in;
+use crate::parts::i_in;
+use crate::parts::irqc_in;
+use crate::parts::put_all;
+use crate::parts::put_control;
+use crate::parts::put_d;
+use crate::parts::put_i;
+use crate::parts::put_irqc;
+use crate::parts::put_status;
+use crate::parts::status_in;
+use crate::parts::system_of;
 use cache::lent::Range;
 use cache::lent::external_write;
 use cache::lent::snoop;
 use cache::lent::touch;
 use cache::registers_lent::read_reg_lent;
+use cache::registers_lent::reset_lent;
 use cache::registers_lent::write_reg_lent;
 use common::Refusal;
+use irqc::IrqController;
 use listing::Line;
+use memory::Content;
+use memory::good_map;
+use memory::read_word;
 use mmu::exception::Access;
 use mmu::words::Control;
+use mmu::words::put_tlb;
 use privilege::check::Permission;
 use privilege::lent::check_access;
+use privilege::lent::check_apart;
 use privilege::lent::enter_trap;
 use privilege::lent::leave_trap;
-use privilege::region::Region;
+use privilege::lent::status_of;
+use privilege::region_words::put_regions;
 use privilege::registers::SrAnswer;
 use privilege::registers::SrRead;
 use privilege::registers_lent::read_sr_lent;
 use privilege::registers_lent::write_sr_lent;
 use privilege::run::read_run;
 use privilege::run::write_run;
+use privilege::state::SystemState;
 use privilege::state::mode_of;
 use script::Event;
-
-// What an event leaves of the parts, and what it shows.
-pub struct Shown {
-    pub parts: Parts,
-    pub line: Line,
-}
 
 fn access_of(kind: u8) -> Access
     ensures { λ r. ⌜ r ≡ accessKind kind ⌝ }
 {
-    if kind == 0 {
-        return Access::Read;
+    match kind {
+        0 => Access::Read,
+        1 => Access::Write,
+        _ => Access::Fetch,
     }
-    if kind == 1 {
-        return Access::Write;
-    }
-    Access::Fetch
 }
 
 // The access stays in its page.
@@ -79,9 +91,56 @@ fn with_victim(c: Control, victim: usize) -> Control
     }
 }
 
-// An allowed access: the cache, then memory.
+// The cache, asked once at the first byte's physical address, and what that costs.
+fn ask(
+    parts: &mut [u64; 23],
+    range: Range,
+    itags: &mut [u32; 256],
+    dtags: &mut [u32; 256],
+    kind: u8,
+    pa: u32,
+) -> u32
+    ensures { λ r. ⌜ Asks range (partsAt (now (parts .entry))) (now (itags .entry)) (now (dtags .entry)) kind pa r (partsAt (now (parts .exit))) (now (itags .exit)) (now (dtags .exit)) ⌝ }
+{
+    if kind == 1 {
+        snoop(itags, range, pa);
+        return 0;
+    }
+    if kind == 0 {
+        let touched = touch(dtags, d_in(parts), range, pa);
+        let counts = touched.counts;
+        put_d(parts, counts);
+        return touched.stall;
+    }
+    let touched = touch(itags, i_in(parts), range, pa);
+    let counts = touched.counts;
+    put_i(parts, counts);
+    touched.stall
+}
+
+// The line of a load or fetch whose bytes stand in a row. A word in the map is the frequent case.
+fn read_line(mem: &[u8], base: u32, pa: u32, size: u32, stall: u32, reads: u32) -> Line
+    ensures { λ r. ⌜ r ≡ lineOf (readOutcome (loadAt (lent base (now (mem .entry))) size (runOf size pa))) stall reads ⌝ }
+{
+    if size == 4 {
+        if good_map(mem, base) {
+            let content = read_word(mem, base, pa);
+            if let Content::Value(v) = content {
+                return Line {
+                    letter: b'V',
+                    digits: v,
+                    stall: stall as u64,
+                    reads,
+                };
+            }
+        }
+    }
+    line_of(read_outcome(read_run(mem, base, pa, size)), stall, reads)
+}
+
+// An allowed access that stays in its page: the cache, then memory.
 fn moved(
-    p: Parts,
+    parts: &mut [u64; 23],
     range: Range,
     itags: &mut [u32; 256],
     dtags: &mut [u32; 256],
@@ -90,43 +149,48 @@ fn moved(
     e: Event,
     pa: u32,
     reads: u32,
-) -> Shown
-    ensures { λ r. ⌜ Moves range p (now (itags .entry)) (now (dtags .entry)) (lent base (now (mem .entry))) e pa reads r (now (itags .exit)) (now (dtags .exit)) (now (mem .exit)) ⌝ }
+) -> Line
+    ensures { λ r. ⌜ Moves range (partsAt (now (parts .entry))) (now (itags .entry)) (now (dtags .entry)) (lent base (now (mem .entry))) e pa reads r (partsAt (now (parts .exit))) (now (itags .exit)) (now (dtags .exit)) (now (mem .exit)) ⌝ }
 {
     let size = e.size as u32;
+    let stall = ask(parts, range, itags, dtags, e.kind, pa);
     if e.kind == 1 {
-        snoop(itags, range, pa);
         let written = write_run(mem, base, pa, size, e.b);
-        return Shown {
-            parts: p,
-            line: line_of(write_outcome(written), 0, reads),
-        };
+        return line_of(write_outcome(written), stall, reads);
     }
-    if e.kind == 0 {
-        let d = p.d;
-        let touched = touch(dtags, d, range, pa);
-        let counts = touched.counts;
-        let read = read_run(mem, base, pa, size);
-        return Shown {
-            parts: with_d(p, counts),
-            line: line_of(read_outcome(read), touched.stall, reads),
-        };
+    read_line(mem, base, pa, size, stall, reads)
+}
+
+// An allowed access over two pages, of which each byte is looked up in the state `sys`.
+fn moved_apart(
+    parts: &mut [u64; 23],
+    range: Range,
+    itags: &mut [u32; 256],
+    dtags: &mut [u32; 256],
+    mem: &mut [u8],
+    base: u32,
+    e: Event,
+    sys: SystemState,
+    pa: u32,
+    reads: u32,
+) -> Line
+    ensures { λ r. ⌜ MovesApart range sys (partsAt (now (parts .entry))) (now (itags .entry)) (now (dtags .entry)) (lent base (now (mem .entry))) e pa reads r (partsAt (now (parts .exit))) (now (itags .exit)) (now (dtags .exit)) (now (mem .exit)) ⌝ }
+{
+    let size = e.size as u32;
+    let stall = ask(parts, range, itags, dtags, e.kind, pa);
+    if e.kind == 1 {
+        let written = sys.write_data(mem, base, e.a, size, e.b);
+        return line_of(write_outcome(written), stall, reads);
     }
-    let i = p.i;
-    let touched = touch(itags, i, range, pa);
-    let counts = touched.counts;
-    let read = read_run(mem, base, pa, size);
-    Shown {
-        parts: with_i(p, counts),
-        line: line_of(read_outcome(read), touched.stall, reads),
-    }
+    let read = sys.read_data(mem, base, e.a, size);
+    line_of(read_outcome(read), stall, reads)
 }
 
 // Kinds 0 to 2, of an access that stays in its page.
 fn access(
-    p: Parts,
+    parts: &mut [u64; 23],
     range: Range,
-    regions: [Region; 8],
+    regions: &[u32; 24],
     keys: &mut [u64; 16],
     leaves: &mut [u64; 16],
     itags: &mut [u32; 256],
@@ -134,13 +198,12 @@ fn access(
     mem: &mut [u8],
     base: u32,
     e: Event,
-) -> Shown
-    ensures { λ r. ⌜ Accesses range regions p (now (keys .entry)) (now (leaves .entry)) (now (itags .entry)) (now (dtags .entry)) (lent base (now (mem .entry))) e r (now (keys .exit)) (now (leaves .exit)) (now (itags .exit)) (now (dtags .exit)) (now (mem .exit)) ⌝ }
+) -> Line
+    ensures { λ r. ⌜ InPageAccesses range (regionsOf (now (regions .entry))) (partsAt (now (parts .entry))) (now (keys .entry)) (now (leaves .entry)) (now (itags .entry)) (now (dtags .entry)) (lent base (now (mem .entry))) e r (partsAt (now (parts .exit))) (now (keys .exit)) (now (leaves .exit)) (now (itags .exit)) (now (dtags .exit)) (now (mem .exit)) ⌝ }
 {
-    let status = p.status;
-    let control = p.control;
+    let control = control_in(parts);
     let checked = check_access(
-        status,
+        status_in(parts),
         control,
         regions,
         keys,
@@ -151,11 +214,11 @@ fn access(
         e.size as u32,
         access_of(e.kind),
     );
-    let after = with_control(p, with_victim(control, checked.next_victim));
+    put_control(parts, with_victim(control, checked.next_victim));
     let permission = checked.permission;
     match permission {
         Permission::Allowed => moved(
-            after,
+            parts,
             range,
             itags,
             dtags,
@@ -165,171 +228,263 @@ fn access(
             checked.pa,
             checked.reads,
         ),
-        Permission::Denied(x) => Shown {
-            parts: after,
-            line: line_of(Outcome::Exception(x), 0, checked.reads),
-        },
-        Permission::Refused(r) => Shown {
-            parts: after,
-            line: line_of(Outcome::Refused(r), 0, 0),
-        },
+        Permission::Denied(x) => line_of(Outcome::Exception(x), 0, checked.reads),
+        Permission::Refused(r) => line_of(Outcome::Refused(r), 0, 0),
     }
 }
 
-// What an event leaves of the parts and what it shows, if it is done here.
-pub struct InPlace {
-    pub done: bool,
-    pub parts: Parts,
-    pub line: Line,
+// Kinds 0 to 2, of any access. One inside its page has a shorter way.
+fn access_apart(
+    parts: &mut [u64; 23],
+    range: Range,
+    regions: &[u32; 24],
+    keys: &mut [u64; 16],
+    leaves: &mut [u64; 16],
+    itags: &mut [u32; 256],
+    dtags: &mut [u32; 256],
+    mem: &mut [u8],
+    base: u32,
+    e: Event,
+) -> Line
+    ensures { λ r. ⌜ Accesses range (regionsOf (now (regions .entry))) (partsAt (now (parts .entry))) (now (keys .entry)) (now (leaves .entry)) (now (itags .entry)) (now (dtags .entry)) (lent base (now (mem .entry))) e r (partsAt (now (parts .exit))) (now (keys .exit)) (now (leaves .exit)) (now (itags .exit)) (now (dtags .exit)) (now (mem .exit)) ⌝ }
+{
+    let control = control_in(parts);
+    let checked = check_apart(
+        status_in(parts),
+        control,
+        regions,
+        keys,
+        leaves,
+        mem,
+        base,
+        e.a,
+        e.size as u32,
+        access_of(e.kind),
+    );
+    put_control(parts, with_victim(control, checked.next_victim));
+    let permission = checked.permission;
+    match permission {
+        Permission::Allowed => {
+            let sys = system_of(parts, regions, keys, leaves);
+            moved_apart(
+                parts,
+                range,
+                itags,
+                dtags,
+                mem,
+                base,
+                e,
+                sys,
+                checked.pa,
+                checked.reads,
+            )
+        }
+        Permission::Denied(x) => line_of(Outcome::Exception(x), 0, checked.reads),
+        Permission::Refused(r) => line_of(Outcome::Refused(r), 0, 0),
+    }
 }
 
 // An event that answers a value and costs nothing.
-fn shows(parts: Parts, v: u32) -> InPlace
-    ensures { λ r. ⌜ r ≡ showing parts v ⌝ }
+fn shows(v: u32) -> Line
+    ensures { λ r. ⌜ r ≡ showing v ⌝ }
 {
-    InPlace {
-        done: true,
-        parts,
-        line: Line {
-            letter: b'V',
-            digits: v,
-            stall: 0,
-            reads: 0,
-        },
+    Line {
+        letter: b'V',
+        digits: v,
+        stall: 0,
+        reads: 0,
     }
 }
 
-// An event that is not done here. Nothing has moved.
-fn elsewhere(parts: Parts) -> InPlace
-    ensures { λ r. ⌜ (r .done ≡ false) × (r .parts ≡ parts) ⌝ }
+fn refuses(refusal: Refusal) -> Line
+    ensures { λ r. ⌜ r ≡ refusing refusal ⌝ }
 {
-    InPlace {
-        done: false,
-        parts,
-        line: Line {
-            letter: b'V',
-            digits: 0,
-            stall: 0,
-            reads: 0,
-        },
+    Line {
+        letter: b'N',
+        digits: refusal.number(),
+        stall: 0,
+        reads: 0,
     }
 }
 
-// Traps, the controller and R0 to R31: kinds 3, 4, 7, 8, 9, 14 and 15.
-fn state_event(p: Parts, reg: &mut [u32; 32], e: Event) -> InPlace
-    ensures { λ r. ⌜ Shows p (now (reg .entry)) e r (now (reg .exit)) ⌝ }
+// Kind 3.
+fn trap_event(parts: &mut [u64; 23], reg: &mut [u32; 32], e: Event) -> Line
+    ensures { λ r. ⌜ Shows (λ (M : Machine). trapEvent M e) (partsAt (now (parts .entry))) (now (reg .entry)) r (partsAt (now (parts .exit))) (now (reg .exit)) ⌝ }
 {
-    let kind = e.kind;
-    let status = p.status;
-    let irqc = p.irqc;
-    match kind {
-        3 => {
-            let after = enter_trap(status, reg, e.a, e.b, mode_of(e.aux % 2 == 1));
-            shows(with_status(p, after), 0)
-        }
-        4 => {
-            let after = leave_trap(status, reg);
-            shows(with_status(p, after), status.epc)
-        }
-        7 => shows(with_irqc(p, irqc.set_source(e.aux as u32, e.size != 0)), 0),
-        8 => shows(with_irqc(p, irqc.clear_pending(e.aux)), 0),
-        9 => shows(with_irqc(p, irqc.set_enable_mask(e.aux)), 0),
-        14 => shows(p, shown_output(irqc.irq_output())),
-        15 => register_event(p, reg, e),
-        _ => elsewhere(p),
-    }
+    let mode = mode_of(e.aux % 2 == 1);
+    let after = enter_trap(status_in(parts), reg, e.a, e.b, mode);
+    put_status(parts, after);
+    shows(0)
 }
 
-fn register_event(p: Parts, reg: &mut [u32; 32], e: Event) -> InPlace
-    ensures { λ r. ⌜ RegisterShows p (now (reg .entry)) e r (now (reg .exit)) ⌝ }
+// Kind 4.
+fn return_event(parts: &mut [u64; 23], reg: &mut [u32; 32]) -> Line
+    ensures { λ r. ⌜ Shows returnEvent (partsAt (now (parts .entry))) (now (reg .entry)) r (partsAt (now (parts .exit))) (now (reg .exit)) ⌝ }
 {
-    let index = e.size as usize;
-    if index < 32 {
-        reg[index] = e.a;
-        return shows(p, 0);
-    }
-    elsewhere(p)
-}
-
-fn refuses(parts: Parts, refusal: Refusal) -> InPlace
-    ensures { λ r. ⌜ r ≡ refusing parts refusal ⌝ }
-{
-    InPlace {
-        done: true,
-        parts,
-        line: Line {
-            letter: b'N',
-            digits: refusal.number(),
-            stall: 0,
-            reads: 0,
-        },
-    }
+    let status = status_in(parts);
+    let after = leave_trap(status, reg);
+    put_status(parts, after);
+    shows(status.epc)
 }
 
 // Kind 5.
-fn read_event(p: Parts, regions: [Region; 8], reg: &[u32; 32], e: Event) -> InPlace
-    ensures { λ r. ⌜ Reads p regions (now (reg .entry)) e r ⌝ }
+fn read_event(parts: &[u64; 23], regions: &[u32; 24], reg: &[u32; 32], e: Event) -> Line
+    ensures { λ r. ⌜ Reads (partsAt (now (parts .entry))) (regionsOf (now (regions .entry))) (now (reg .entry)) e r ⌝ }
 {
-    let status = p.status;
-    let control = p.control;
-    let read = read_sr_lent(status, control, regions, reg, e.aux);
+    let read = read_sr_lent(status_in(parts), control_in(parts), regions, reg, e.aux);
     match read {
-        SrRead::Value(v) => shows(p, v),
-        SrRead::Refused(r) => refuses(p, r),
+        SrRead::Value(v) => shows(v),
+        SrRead::Refused(r) => refuses(r),
     }
 }
 
-// Kind 6, of a register that is no region's.
+// Kind 6.
 fn write_event(
-    p: Parts,
+    parts: &mut [u64; 23],
+    regions: &mut [u32; 24],
     keys: &mut [u64; 16],
     leaves: &mut [u64; 16],
     reg: &mut [u32; 32],
     e: Event,
-) -> InPlace
-    ensures { λ r. ⌜ Writes p (now (keys .entry)) (now (leaves .entry)) (now (reg .entry)) e r (now (keys .exit)) (now (leaves .exit)) (now (reg .exit)) ⌝ }
+) -> Line
+    ensures { λ r. ⌜ Writes (partsAt (now (parts .entry))) (regionsOf (now (regions .entry))) (now (keys .entry)) (now (leaves .entry)) (now (reg .entry)) e r (partsAt (now (parts .exit))) (regionsOf (now (regions .exit))) (now (keys .exit)) (now (leaves .exit)) (now (reg .exit)) ⌝ }
 {
-    let status = p.status;
-    let control = p.control;
-    let written = write_sr_lent(status, control, keys, leaves, reg, e.aux, e.a);
-    if written.done {
-        let s = written.status;
-        let c = written.control;
-        let answer = written.answer;
-        let after = with_control(with_status(p, s), c);
-        return match answer {
-            SrAnswer::Done => shows(after, 0),
-            SrAnswer::Refused(r) => refuses(after, r),
-        };
+    let written = write_sr_lent(
+        status_in(parts),
+        control_in(parts),
+        regions,
+        keys,
+        leaves,
+        reg,
+        e.aux,
+        e.a,
+    );
+    let status = written.status;
+    let control = written.control;
+    let answer = written.answer;
+    put_status(parts, status);
+    put_control(parts, control);
+    match answer {
+        SrAnswer::Done => shows(0),
+        SrAnswer::Refused(r) => refuses(r),
     }
-    elsewhere(p)
 }
 
-// Kinds 10, 11 and 12: an external write, and the cache's registers.
-fn cache_event(p: Parts, itags: &mut [u32; 256], dtags: &mut [u32; 256], e: Event) -> InPlace
-    ensures { λ r. ⌜ CacheShows p (now (itags .entry)) (now (dtags .entry)) e r (now (itags .exit)) (now (dtags .exit)) ⌝ }
+// Kinds 7, 8 and 9 leave a controller and answer nothing.
+fn irqc_event(parts: &mut [u64; 23], irqc: IrqController) -> Line
+    ensures { λ r. ⌜ (r ≡ showing 0) × (partsAt (now (parts .exit)) ≡ withIrqc (partsAt (now (parts .entry))) irqc) ⌝ }
 {
-    let i = p.i;
-    let d = p.d;
-    if e.kind == 10 {
-        external_write(itags, e.a, e.b);
-        external_write(dtags, e.a, e.b);
-        return shows(p, 0);
-    }
-    if e.kind == 11 {
-        return shows(p, read_reg_lent(i, d, e.a));
-    }
-    let after = write_reg_lent(itags, dtags, i, d, e.a, e.b);
-    let ic = after.i;
-    let dc = after.d;
-    shows(with_d(with_i(p, ic), dc), 0)
+    put_irqc(parts, irqc);
+    shows(0)
 }
 
-// One event, if it is done here: all but accesses over two pages, a region's register and a reset.
+// Kind 10.
+fn external_event(itags: &mut [u32; 256], dtags: &mut [u32; 256], e: Event) -> Line
+    ensures { λ r. ⌜ Sweeps (now (itags .entry)) (now (dtags .entry)) e r (now (itags .exit)) (now (dtags .exit)) ⌝ }
+{
+    external_write(itags, e.a, e.b);
+    external_write(dtags, e.a, e.b);
+    shows(0)
+}
+
+// Kind 12.
+fn cache_event(
+    parts: &mut [u64; 23],
+    itags: &mut [u32; 256],
+    dtags: &mut [u32; 256],
+    e: Event,
+) -> Line
+    ensures { λ r. ⌜ CacheWrites (partsAt (now (parts .entry))) (now (itags .entry)) (now (dtags .entry)) e r (partsAt (now (parts .exit))) (now (itags .exit)) (now (dtags .exit)) ⌝ }
+{
+    let after = write_reg_lent(itags, dtags, i_in(parts), d_in(parts), e.a, e.b);
+    let i = after.i;
+    let d = after.d;
+    put_i(parts, i);
+    put_d(parts, d);
+    shows(0)
+}
+
+// Kind 13.
+fn reset_event(
+    parts: &mut [u64; 23],
+    regions: &mut [u32; 24],
+    keys: &mut [u64; 16],
+    leaves: &mut [u64; 16],
+    itags: &mut [u32; 256],
+    dtags: &mut [u32; 256],
+) -> Line
+    ensures { λ r. ⌜ Resetting r (partsAt (now (parts .exit))) (regionsOf (now (regions .exit))) (now (keys .exit)) (now (leaves .exit)) (now (itags .exit)) (now (dtags .exit)) ⌝ }
+{
+    let sys = SystemState::new();
+    let table = sys.regions;
+    put_regions(regions, table);
+    let vm = sys.vm;
+    let tlb = vm.tlb;
+    put_tlb(keys, leaves, tlb);
+    let banks = reset_lent(itags, dtags);
+    let i = banks.i;
+    let d = banks.d;
+    put_all(
+        parts,
+        status_of(sys),
+        control_of(vm),
+        i,
+        d,
+        IrqController::new(),
+    );
+    shows(0)
+}
+
+// Kind 15.
+fn register_event(reg: &mut [u32; 32], e: Event) -> Line
+    ensures { λ r. ⌜ RegisterShows (now (reg .entry)) e r (now (reg .exit)) ⌝ }
+{
+    let index = e.size as usize;
+    if index < 32 {
+        reg[index] = e.a;
+        return shows(0);
+    }
+    refuses(Refusal::Event)
+}
+
+// Kinds 3 to 15, which touch no memory.
+fn state_event(
+    parts: &mut [u64; 23],
+    regions: &mut [u32; 24],
+    keys: &mut [u64; 16],
+    leaves: &mut [u64; 16],
+    reg: &mut [u32; 32],
+    itags: &mut [u32; 256],
+    dtags: &mut [u32; 256],
+    e: Event,
+) -> Line
+    ensures { λ r. ⌜ States (partsAt (now (parts .entry))) (regionsOf (now (regions .entry))) (arrays (now (keys .entry)) (now (leaves .entry)) (now (reg .entry)) (now (itags .entry)) (now (dtags .entry))) e r (partsAt (now (parts .exit))) (regionsOf (now (regions .exit))) (arrays (now (keys .exit)) (now (leaves .exit)) (now (reg .exit)) (now (itags .exit)) (now (dtags .exit))) ⌝ }
+{
+    let kind = e.kind;
+    let irqc = irqc_in(parts);
+    match kind {
+        3 => trap_event(parts, reg, e),
+        4 => return_event(parts, reg),
+        5 => read_event(parts, regions, reg, e),
+        6 => write_event(parts, regions, keys, leaves, reg, e),
+        7 => irqc_event(parts, irqc.set_source(e.aux as u32, e.size != 0)),
+        8 => irqc_event(parts, irqc.clear_pending(e.aux)),
+        9 => irqc_event(parts, irqc.set_enable_mask(e.aux)),
+        10 => external_event(itags, dtags, e),
+        11 => shows(read_reg_lent(i_in(parts), d_in(parts), e.a)),
+        12 => cache_event(parts, itags, dtags, e),
+        13 => reset_event(parts, regions, keys, leaves, itags, dtags),
+        14 => shows(shown_output(irqc.irq_output())),
+        15 => register_event(reg, e),
+        _ => refuses(Refusal::Event),
+    }
+}
+
+// One event.
 pub(crate) fn step(
-    p: Parts,
+    parts: &mut [u64; 23],
     range: Range,
-    regions: [Region; 8],
+    regions: &mut [u32; 24],
     keys: &mut [u64; 16],
     leaves: &mut [u64; 16],
     reg: &mut [u32; 32],
@@ -338,33 +493,36 @@ pub(crate) fn step(
     mem: &mut [u8],
     base: u32,
     e: Event,
-) -> InPlace
-    ensures { λ r. ⌜ StepsInPlace range regions p (arrays (now (keys .entry)) (now (leaves .entry)) (now (reg .entry)) (now (itags .entry)) (now (dtags .entry))) base (now (mem .entry)) e r (arrays (now (keys .exit)) (now (leaves .exit)) (now (reg .exit)) (now (itags .exit)) (now (dtags .exit))) (now (mem .exit)) ⌝ }
+) -> Line
+    ensures { λ r. ⌜ Steps range (partsAt (now (parts .entry))) (regionsOf (now (regions .entry))) (arrays (now (keys .entry)) (now (leaves .entry)) (now (reg .entry)) (now (itags .entry)) (now (dtags .entry))) base (now (mem .entry)) e r (partsAt (now (parts .exit))) (regionsOf (now (regions .exit))) (arrays (now (keys .exit)) (now (leaves .exit)) (now (reg .exit)) (now (itags .exit)) (now (dtags .exit))) (now (mem .exit)) ⌝ }
 {
     if e.kind < 3 {
         if in_page(e.a, e.size) {
-            let accessed = access(p, range, regions, keys, leaves, itags, dtags, mem, base, e);
-            let parts = accessed.parts;
-            let line = accessed.line;
-            return InPlace {
-                done: true,
+            return access(
                 parts,
-                line,
-            };
+                range,
+                regions,
+                keys,
+                leaves,
+                itags,
+                dtags,
+                mem,
+                base,
+                e,
+            );
         }
-        return elsewhere(p);
+        return access_apart(
+            parts,
+            range,
+            regions,
+            keys,
+            leaves,
+            itags,
+            dtags,
+            mem,
+            base,
+            e,
+        );
     }
-    if e.kind == 5 {
-        return read_event(p, regions, reg, e);
-    }
-    if e.kind == 6 {
-        return write_event(p, keys, leaves, reg, e);
-    }
-    if e.kind < 10 {
-        return state_event(p, reg, e);
-    }
-    if e.kind < 13 {
-        return cache_event(p, itags, dtags, e);
-    }
-    state_event(p, reg, e)
+    state_event(parts, regions, keys, leaves, reg, itags, dtags, e)
 }

@@ -96,6 +96,17 @@ pub fn words_of(tlb: [TlbEntry; 16]) -> Words
     Words { keys, leaves }
 }
 
+// The words of sixteen entries, where they stand.
+pub fn put_tlb(keys: &mut [u64; 16], leaves: &mut [u64; 16], tlb: [TlbEntry; 16])
+    ensures { λ _. ⌜ (tlbOf (now (keys .exit)) (now (leaves .exit)) ≡ tlb) × Sixteen (now (keys .exit)) (now (leaves .exit)) ⌝ }
+{
+    let words = words_of(tlb);
+    let ks = words.keys;
+    let ls = words.leaves;
+    *keys = ks;
+    *leaves = ls;
+}
+
 // The entries of those words.
 pub fn tlb_of(keys: [u64; 16], leaves: [u64; 16]) -> [TlbEntry; 16]
     ensures { λ r. ⌜ r ≡ tlbOf keys leaves ⌝ }

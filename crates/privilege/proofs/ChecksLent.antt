@@ -1,4 +1,4 @@
--- The ways through the check of an access that stays in its page, on lent words. Assumes nothing.
+-- The ways through the check of an access on lent words: of one that stays in its page, and of any. Assumes nothing.
 use Prim.Native.Nat.{ℕ, zero, suc, _+_, _%_, _/_, _^_, _≤_, _<_}
 use mathlib.Core.Path.{_≡_, refl, sym, ap, _∙_}
 use mathlib.Core.Bool.{Bool, true, false, cond}
@@ -9,6 +9,7 @@ use Rattle.common.specs.Cases.{absurd-eq}
 use Rattle.common.specs.declared.Refusal.the-variants.{Size, Map}
 use Rattle.memory.specs.Memory.{Memory}
 use Rattle.mmu.specs.Check.{checkPage, checkEach, pagesOf}
+use Rattle.mmu.specs.Check.Pages.{pages-keep}
 use Rattle.mmu.specs.Opened.Laws.{passed, pages-one}
 use Rattle.mmu.specs.Tlb.{firstMatch}
 use Rattle.mmu.specs.Words.{tlbOf, Sixteen, vmOf, withVictim, foundAs, CheckedLent}
@@ -20,15 +21,18 @@ use Rattle.mmu.specs.declared.exception.Access.{Access}
 use Rattle.mmu.specs.declared.exception.Access.the-variants.{Read, Write, Fetch}
 use Rattle.mmu.specs.declared.exception.Exception.the-variants.{ProtectionFault}
 use Rattle.mmu.specs.declared.tlb.Slot.the-variants.{At}
+use Rattle.mmu.specs.declared.tlb.TlbEntry.{TlbEntry}
+use Rattle.mmu.specs.declared.vm.Vm.{Vm}
 use Rattle.mmu.specs.declared.words.Control.{Control}
 use Rattle.mmu.specs.declared.words.Found.{Found}
 use Rattle.privilege.specs.Access.{fetchSize, dataSize, legalSize, mapGood, translatingOf, allowsOf, permissionOf, fromPages, checkLegal, checkAccess}
 use Rattle.privilege.specs.Access.Laws as laws
 use Rattle.privilege.specs.Addresses.{stepped}
-use Rattle.privilege.specs.Lent.{stateOf, InPage, afterwards, Answers, Checks, ChecksLegal}
+use Rattle.privilege.specs.Lent.{stateOf, InPage, answered, regionAnswer, Checks, ChecksLegal, Apart, ApartLegal, pagesChecked, pagesAnswer, ApartPages}
 use Rattle.privilege.specs.Region.{allAllowed}
 use Rattle.privilege.specs.Transfer.{slotFrame, frameOf, joinedTo, physicalOf}
 use Rattle.privilege.specs.Transfer.Laws.{physical-off, physical-on}
+use Rattle.privilege.specs.declared.check.AccessChecked.{AccessChecked}
 use Rattle.privilege.specs.declared.check.Permission.{Permission}
 use Rattle.privilege.specs.declared.check.Permission.the-variants.{Allowed, Denied, Refused}
 use Rattle.privilege.specs.declared.lent.Permitted.{Permitted}
@@ -52,30 +56,78 @@ allowing (verdict.Denied e) h = absurd-eq (cc)
 abbrev pub permitted : Permission → ℕ → ℕ → ℕ → Permitted
 permitted p pa victim reads = record { permission = p; pa = pa; «next_victim» = victim; reads = reads }
 
+-- the regions' answer
+module _ (rs : List Region) (c : Control) (a n : ℕ) (k : Access) (r : Permitted) (ok : Bool) (e : ok ≡ allAllowed rs k (stepped n a)) where
+  pub regions-grant : r ≡ answered Allowed a c → ok ≡ true → r ≡ regionAnswer rs c a n k
+  regions-grant is t = is ∙ rw (← e, t)
+
+  pub regions-deny : r ≡ answered (Denied (ProtectionFault k)) 0 c → ok ≡ false → r ≡ regionAnswer rs c a n k
+  regions-deny is t = is ∙ rw (← e, t)
+
+abbrev checkedAs : SystemState → Permission → ℕ → AccessChecked
+checkedAs s p reads = record { sys = s; permission = p; reads = reads }
+
+-- registers and entries that are those of v
+vm-again : (c : Control) (v : Vm) (t : List TlbEntry) (victim : ℕ) → v .enabled ≡ c .enabled → v .ptbr ≡ c .ptbr → v .vfault ≡ c .vfault → t ≡ v .tlb
+    → victim ≡ v .«next_victim» → vmOf (withVictim c victim) t ≡ v
+vm-again c v t victim p q w e x = rw (← p, ← q, ← w, e, x)
+
+pub vm-from : (c : Control) (ks ls : List ℕ) (t : List TlbEntry) → t ≡ tlbOf ks ls → vmOf c t ≡ vmOf c (tlbOf ks ls)
+vm-from c ks ls t e = ap (vmOf c) e
+
+-- a translated access by the check of its pages, and the words that it leaves
+module _ (m : Memory) (c : Control) (ks ls : List ℕ) (a n : ℕ) (k : Access) (v : Vm) (d : Checked) (p : Permission) (ppn pa : ℕ) (ks′ ls′ : List ℕ) where
+  pub by-each-page : v ≡ vmOf c (tlbOf ks ls) → d ≡ checkEach m k v (pagesOf a n) → p ≡ permissionOf (d .verdict) → ppn ≡ frameOf (d .vm) a → pa ≡ joinedTo ppn a
+      → (tlbOf ks′ ls′ ≡ d .vm .tlb) × Sixteen ks′ ls′ → ApartPages m c ks ls a n k (permitted p pa (d .vm .«next_victim») (d .reads)) ks′ ls′
+  by-each-page vm is verdict frame joined t =
+      let e : d ≡ pagesChecked m c ks ls a n k = is ∙ ap (λ (x : Vm). checkEach m k x (pagesOf a n)) vm in
+      (rw (joined, frame, verdict) (ap (λ (x : Checked). pagesAnswer x a) e), t .0 ∙ ap (λ (x : Checked). x .vm .tlb) e, t .1)
+
 module _ (m : Memory) (s : Status) (c : Control) (rs : List Region) (ks ls : List ℕ) (a n : ℕ) (k : Access) where
   abbrev before : SystemState
   before = stateOf s rs (vmOf c (tlbOf ks ls))
 
   -- the mode
   module _ (r : Permitted) where
-    pub legal-supervisor : r ≡ permitted Allowed a (c .«next_victim») 0 → s .user ≡ false → ChecksLegal m s c rs ks ls a n k r ks ls
-    legal-supervisor is h p six page =
+    pub apart-supervisor : r ≡ answered Allowed a c → s .user ≡ false → ApartLegal m s c rs ks ls a n k r ks ls
+    apart-supervisor is h six =
         rw is (sym (laws.by-supervisor m before a n k h), (λ ok. physical-off before a (sym (off before h))), six)
 
-    unwatched : s .user ≡ true → c .enabled ≡ false → translatingOf before ≡ false
-    unwatched h g = sym (on before h) ∙ g
+    pub legal-supervisor : r ≡ answered Allowed a c → s .user ≡ false → ChecksLegal m s c rs ks ls a n k r ks ls
+    legal-supervisor is h p six page = apart-supervisor is h six
 
-    pub legal-granted : (ok : Bool) → r ≡ permitted Allowed a (c .«next_victim») 0 → s .user ≡ true → c .enabled ≡ false → ok ≡ allAllowed rs k (stepped n a) → ok ≡ true
-        → ChecksLegal m s c rs ks ls a n k r ks ls
-    legal-granted ok is h g e t p six page =
-        rw is
-        (sym (laws.by-regions m before a n k (unwatched h g) ∙ rw (sym (by-regions before a n k ok h e) ∙ t)), (λ x. physical-off before a (unwatched h g)), six)
+    module _ (h : s .user ≡ true) (g : c .enabled ≡ false) where
+      unwatched : translatingOf before ≡ false
+      unwatched = sym (on before h) ∙ g
 
-    pub legal-denied : (ok : Bool) → r ≡ permitted (Denied (ProtectionFault k)) 0 (c .«next_victim») 0 → s .user ≡ true → c .enabled ≡ false → ok ≡ allAllowed rs k (stepped n a) → ok ≡ false
-        → ChecksLegal m s c rs ks ls a n k r ks ls
-    legal-denied ok is h g e t p six page =
-        rw is
-        (sym (laws.by-regions m before a n k (unwatched h g) ∙ rw (sym (by-regions before a n k ok h e) ∙ t)), (λ x. absurd-eq (cc)), six)
+      by-grant : (ok : Bool) → ok ≡ allAllowed rs k (stepped n a) → r ≡ cond ok (answered Allowed a c) (answered (Denied (ProtectionFault k)) 0 c)
+          → ApartLegal m s c rs ks ls a n k r ks ls
+      by-grant true e is six =
+          rw is (sym (laws.by-regions m before a n k unwatched ∙ rw (sym (by-regions before a n k true h e))), (λ x. physical-off before a unwatched), six)
+      by-grant false e is six =
+          rw is (sym (laws.by-regions m before a n k unwatched ∙ rw (sym (by-regions before a n k false h e))), (λ x. absurd-eq (cc)), six)
+
+      pub apart-regions : r ≡ regionAnswer rs c a n k → ApartLegal m s c rs ks ls a n k r ks ls
+      apart-regions is = by-grant (allAllowed rs k (stepped n a)) refl is
+
+      pub legal-regions : r ≡ regionAnswer rs c a n k → ChecksLegal m s c rs ks ls a n k r ks ls
+      legal-regions is p six page = apart-regions is six
+
+  -- a translated access over any pages
+  module _ (r : Permitted) (ks′ ls′ : List ℕ) (h : s .user ≡ true) (g : c .enabled ≡ true) where
+    pub apart-translated : ApartPages m c ks ls a n k r ks′ ls′ → ApartLegal m s c rs ks ls a n k r ks′ ls′
+    apart-translated w six =
+        let d = pagesChecked m c ks ls a n k in
+        let kept = pages-keep m k (vmOf c (tlbOf ks ls)) (pagesOf a n) in
+        let left = stateOf s rs (vmOf (withVictim c (d .vm .«next_victim»)) (tlbOf ks′ ls′)) in
+        let t : translatingOf before ≡ true = sym (on before h) ∙ g in
+        let t′ : translatingOf left ≡ true = sym (on left h) ∙ g in
+        let again : left .vm ≡ d .vm = vm-again c (d .vm) (tlbOf ks′ ls′) (d .vm .«next_victim») (kept .enabled) (kept .ptbr) (kept .vfault) (w .1) refl in
+        rw (w .0) (
+          ap (λ (v : Vm). checkedAs (stateOf s rs v) (permissionOf (d .verdict)) (d .reads)) again ∙ sym (laws.by-pages m before a n k t),
+          (λ ok. physical-on left a t′ ∙ ap (λ (v : Vm). joinedTo (frameOf v a) a) again),
+          w .2,
+        )
 
   -- a translated access, by what the page's check found
   module _ (f : Found) (ks′ ls′ : List ℕ) (w : CheckedLent m k a c ks ls f ks′ ls′) (h : s .user ≡ true) (g : c .enabled ≡ true) where
@@ -109,13 +161,27 @@ module _ (m : Memory) (s : Status) (c : Control) (rs : List Region) (ks ls : Lis
 
   -- the refusals come first
   module _ (good : Bool) (is : good ≡ mapGood m) where
-    pub lent-bad-map : (r : Permitted) → r ≡ permitted (Refused Map) 0 (c .«next_victim») 0 → good ≡ false → Checks m s c rs ks ls a n k r ks ls
-    lent-bad-map r e h six page = rw e (sym (laws.check-bad-map m before a n k (sym is ∙ h)), (λ x. absurd-eq (cc)), six)
+    module _ (r : Permitted) (e : r ≡ answered (Refused Map) 0 c) (h : good ≡ false) where
+      pub apart-bad-map : Apart m s c rs ks ls a n k r ks ls
+      apart-bad-map six = rw e (sym (laws.check-bad-map m before a n k (sym is ∙ h)), (λ x. absurd-eq (cc)), six)
+
+      pub lent-bad-map : Checks m s c rs ks ls a n k r ks ls
+      lent-bad-map six page = apart-bad-map six
 
     module _ (legal : Bool) (l : legal ≡ legalSize k n) (h : good ≡ true) where
-      pub lent-bad-size : (r : Permitted) → r ≡ permitted (Refused Size) 0 (c .«next_victim») 0 → legal ≡ false → Checks m s c rs ks ls a n k r ks ls
-      lent-bad-size r e g six page = rw e (sym (laws.check-bad-size m before a n k (sym is ∙ h) (sym l ∙ g)), (λ x. absurd-eq (cc)), six)
+      module _ (r : Permitted) (e : r ≡ answered (Refused Size) 0 c) (g : legal ≡ false) where
+        pub apart-bad-size : Apart m s c rs ks ls a n k r ks ls
+        apart-bad-size six = rw e (sym (laws.check-bad-size m before a n k (sym is ∙ h) (sym l ∙ g)), (λ x. absurd-eq (cc)), six)
 
-      pub lent-good : (r : Permitted) (ks′ ls′ : List ℕ) → legal ≡ true → ChecksLegal m s c rs ks ls a n k r ks′ ls′ → Checks m s c rs ks ls a n k r ks′ ls′
-      lent-good r ks′ ls′ g w six page =
-          let q = w (positive k n (sym l ∙ g)) six page in (q .0 ∙ sym (laws.check-good m before a n k (sym is ∙ h) (sym l ∙ g)), q .1, q .2)
+        pub lent-bad-size : Checks m s c rs ks ls a n k r ks ls
+        lent-bad-size six page = apart-bad-size six
+
+      module _ (r : Permitted) (ks′ ls′ : List ℕ) (g : legal ≡ true) where
+        good-is : checkAccess m before a n k ≡ checkLegal m before a n k
+        good-is = laws.check-good m before a n k (sym is ∙ h) (sym l ∙ g)
+
+        pub apart-good : ApartLegal m s c rs ks ls a n k r ks′ ls′ → Apart m s c rs ks ls a n k r ks′ ls′
+        apart-good w six = let q = w six in (q .0 ∙ sym good-is, q .1, q .2)
+
+        pub lent-good : ChecksLegal m s c rs ks ls a n k r ks′ ls′ → Checks m s c rs ks ls a n k r ks′ ls′
+        lent-good w six page = let q = w (positive k n (sym l ∙ g)) six page in (q .0 ∙ sym good-is, q .1, q .2)

@@ -2,6 +2,7 @@ pub mod States
 pub mod Traps
 pub mod TrapsLent
 pub mod Regions
+pub mod RegionsLent
 pub mod Numbers
 pub mod NumbersLent
 pub mod Checks

@@ -8,27 +8,27 @@ use lib.Bits.{bitAnd, bitOr}
 use lib.Dec.{eqb}
 use lib.ListN.{getD, set}
 use Rattle.common.specs.Bits.Laws.{flag-is}
-use Rattle.common.specs.Cases.{absurd-eq}
 use Rattle.common.specs.declared.Refusal.the-variants as refusal
 use Rattle.mmu.specs.FlushLent.{FlushedLent, DroppedLent}
 use Rattle.mmu.specs.Vm.{flushed, invalidated}
 use Rattle.mmu.specs.Words.{tlbOf, Sixteen, vmOf}
 use Rattle.mmu.specs.declared.words.Control.{Control}
 use Rattle.privilege.specs.Lent.{stateOf}
-use Rattle.privilege.specs.Region.{fieldOf}
+use Rattle.privilege.specs.Region.{fieldOf, fieldWritten}
 use Rattle.privilege.specs.Registers.{regionField, userWritten, written, srRead, srWritten}
-use Rattle.privilege.specs.RegistersLent.{StatusReads, StatusWrites, UserWrites, RegionReads, Flushes, SrReads, inPlace, Wrote, SrWrites, settled, unnamedAt, unnamedLeft}
+use Rattle.privilege.specs.RegistersLent.{StatusReads, StatusWrites, UserWrites, RegionReads, RegionWrites, Flushes, SrReads, leftBy, SrWrites, settled}
 use Rattle.privilege.specs.State.{isShort, modeOf, bitIf, noRegion}
 use Rattle.privilege.specs.declared.lent.Status.{Status}
 use Rattle.privilege.specs.declared.region.Region.{Region}
 use Rattle.privilege.specs.declared.registers.RegionField.{RegionField}
 use Rattle.privilege.specs.declared.registers.RegionField.the-variants.{At, Nothing}
+use Rattle.privilege.specs.declared.registers.SrAnswer.{SrAnswer}
 use Rattle.privilege.specs.declared.registers.SrAnswer.the-variants as answer
 use Rattle.privilege.specs.declared.registers.SrRead.the-variants as read
 use Rattle.privilege.specs.declared.«registers_lent».SrLent.{SrLent}
 use Rattle.privilege.specs.declared.state.InstructionMode.{InstructionMode}
 use Rattle.privilege.specs.declared.state.SystemState.{SystemState}
-use Rattle.privilege.proofs.Numbers.{Unnamed, page-start, read-unknown, read-field, write-other}
+use Rattle.privilege.proofs.Numbers.{Unnamed, field-bound, page-start, read-unknown, read-field, write-other}
 use Rattle.privilege.proofs.States.{status-is, status-set}
 
 -- ---- the same status with a part changed
@@ -74,20 +74,24 @@ module _ (s : Status) (i v : ℕ) (reg : List ℕ) where
 
 -- a region's register, where decoding its number answered p
 module _ (sr : ℕ) (p : RegionField) (is : p ≡ regionField sr) where
+  pub lent-bound : (n f : ℕ) → p ≡ At n f → n < 8
+  lent-bound n f e = field-bound sr n f (sym is ∙ e)
+
   module _ (regions : List Region) where
     pub lent-read-unknown : p ≡ Nothing → RegionReads regions sr (read.Refused refusal.Register)
     lent-read-unknown e s vm = read-unknown (stateOf s regions vm) sr p is e
 
-    pub lent-read-field : (n f v : ℕ) → p ≡ At n f → v ≡ fieldOf (getD regions n noRegion) f → RegionReads regions sr (read.Value v)
-    lent-read-field n f v e q s vm = read-field (stateOf s regions vm) sr p is n f v e q
+    pub lent-read-field : (n f v : ℕ) (g : Region) → p ≡ At n f → g ≡ getD regions n noRegion → v ≡ fieldOf g f → RegionReads regions sr (read.Value v)
+    lent-read-field n f v g e w q s vm = read-field (stateOf s regions vm) sr p is n f v e (q ∙ ap (λ (x : Region). fieldOf x f) w)
 
-  -- and in a write, where the answer is all that is left to say
-  module _ (s : Status) (c : Control) where
-    pub lent-region : (n f : ℕ) → p ≡ At n f → record { status = s; control = c; done = false; answer = answer.Done } ≡ unnamedLeft s c sr
-    lent-region n f e = rw (← is, e)
+  -- and written
+  module _ (rs : List Region) (v : ℕ) where
+    pub lent-write-unknown : p ≡ Nothing → RegionWrites rs sr v (answer.Refused refusal.Register) rs
+    lent-write-unknown e s vm reg = rw (← is, e)
 
-    pub lent-unknown : p ≡ Nothing → record { status = s; control = c; done = true; answer = answer.Refused refusal.Register } ≡ unnamedLeft s c sr
-    lent-unknown e = rw (← is, e)
+    pub lent-write-field : (n f : ℕ) (old new rs′ : List Region) → p ≡ At n f → old ≡ rs → new ≡ fieldWritten old n f v → rs′ ≡ new
+        → RegionWrites rs sr v answer.Done rs′
+    lent-write-field n f old new rs′ e o w q s vm reg = rw (← is, e, q, w, o)
 
 pub lent-flush : (c : Control) (ks ls ks′ ls′ : List ℕ) → FlushedLent ks ls ks′ ls′ → Flushes c ks ls (control (c .enabled) (c .ptbr) (c .vfault) 0) ks′ ls′
 unfolding flushed
@@ -99,74 +103,63 @@ lent-read-status s c regions reg sr w h e t = rw h (ap read.Value (e regions (vm
 
 -- ---- a write
 
-module _ (s : Status) (c : Control) (ks ls reg : List ℕ) (sr v : ℕ) (r : SrLent) where
+module _ (s : Status) (c : Control) (rs : List Region) (ks ls reg : List ℕ) (sr v : ℕ) (r : SrLent) where
   -- the write is done: what it left is the definition's
-  settle : (s′ : Status) (c′ : Control) (ks′ ls′ reg′ : List ℕ) → r ≡ settled s′ c′ → true ≡ inPlace (regionField sr) → Sixteen ks′ ls′
-      → ((regions : List Region) → written (stateOf s′ regions (vmOf c′ (tlbOf ks′ ls′))) reg′ ≡ srWritten (stateOf s regions (vmOf c (tlbOf ks ls))) sr v reg)
-      → Wrote s c ks ls reg sr v r ks′ ls′ reg′
-  settle s′ c′ ks′ ls′ reg′ e p six w = rw e (record { place = p; writes = λ d. w; keeps = λ d. absurd-eq (cc); sixteen = six })
+  settle : (s′ : Status) (c′ : Control) (ks′ ls′ reg′ : List ℕ) → r ≡ settled s′ c′ → Sixteen ks′ ls′
+      → written (stateOf s′ rs (vmOf c′ (tlbOf ks′ ls′))) reg′ ≡ srWritten (stateOf s rs (vmOf c (tlbOf ks ls))) sr v reg
+      → (leftBy r rs ks′ ls′ reg′ ≡ srWritten (stateOf s rs (vmOf c (tlbOf ks ls))) sr v reg) × Sixteen ks′ ls′
+  settle s′ c′ ks′ ls′ reg′ e six w = rw e (w, six)
 
-  pub lent-status : (s′ : Status) → sr ≡ 0x00 → StatusWrites s v s′ → r ≡ settled s′ c → SrWrites s c ks ls reg sr v r ks ls reg
-  unfolding srWritten regionField
+  pub lent-status : (s′ : Status) → sr ≡ 0x00 → StatusWrites s v s′ → r ≡ settled s′ c → SrWrites s c rs ks ls reg sr v r rs ks ls reg
+  unfolding srWritten
   lent-status s′ h w e six =
-      settle s′ c ks ls reg e (rw h) six (λ regions. rw h (ap (λ (x : SystemState). written x reg) (w regions (vmOf c (tlbOf ks ls)))))
+      settle s′ c ks ls reg e six (rw h (ap (λ (x : SystemState). written x reg) (w rs (vmOf c (tlbOf ks ls)))))
 
-  pub lent-epc : sr ≡ 0x01 → r ≡ settled (withWords s v (s .cause) (s .r28) (s .r29) (s .r30)) c → SrWrites s c ks ls reg sr v r ks ls reg
-  unfolding srWritten regionField
-  lent-epc h e six = settle _ c ks ls reg e (rw h) six (λ regions. rw h)
+  pub lent-epc : sr ≡ 0x01 → r ≡ settled (withWords s v (s .cause) (s .r28) (s .r29) (s .r30)) c → SrWrites s c rs ks ls reg sr v r rs ks ls reg
+  unfolding srWritten
+  lent-epc h e six = settle _ c ks ls reg e six (rw h)
 
-  pub lent-cause : sr ≡ 0x02 → r ≡ settled (withWords s (s .epc) v (s .r28) (s .r29) (s .r30)) c → SrWrites s c ks ls reg sr v r ks ls reg
-  unfolding srWritten regionField
-  lent-cause h e six = settle _ c ks ls reg e (rw h) six (λ regions. rw h)
+  pub lent-cause : sr ≡ 0x02 → r ≡ settled (withWords s (s .epc) v (s .r28) (s .r29) (s .r30)) c → SrWrites s c rs ks ls reg sr v r rs ks ls reg
+  unfolding srWritten
+  lent-cause h e six = settle _ c ks ls reg e six (rw h)
 
   module _ (s′ : Status) (reg′ : List ℕ) (e : r ≡ settled s′ c) where
-    pub lent-usp : sr ≡ 0x08 → UserWrites s 0 v reg s′ reg′ → SrWrites s c ks ls reg sr v r ks ls reg′
-    unfolding srWritten regionField
-    lent-usp h w six = settle s′ c ks ls reg′ e (rw h) six (λ regions. rw h (w regions (vmOf c (tlbOf ks ls))))
+    pub lent-usp : sr ≡ 0x08 → UserWrites s 0 v reg s′ reg′ → SrWrites s c rs ks ls reg sr v r rs ks ls reg′
+    unfolding srWritten
+    lent-usp h w six = settle s′ c ks ls reg′ e six (rw h (w rs (vmOf c (tlbOf ks ls))))
 
-    pub lent-ufp : sr ≡ 0x09 → UserWrites s 1 v reg s′ reg′ → SrWrites s c ks ls reg sr v r ks ls reg′
-    unfolding srWritten regionField
-    lent-ufp h w six = settle s′ c ks ls reg′ e (rw h) six (λ regions. rw h (w regions (vmOf c (tlbOf ks ls))))
+    pub lent-ufp : sr ≡ 0x09 → UserWrites s 1 v reg s′ reg′ → SrWrites s c rs ks ls reg sr v r rs ks ls reg′
+    unfolding srWritten
+    lent-ufp h w six = settle s′ c ks ls reg′ e six (rw h (w rs (vmOf c (tlbOf ks ls))))
 
-    pub lent-ugp : sr ≡ 0x0A → UserWrites s 2 v reg s′ reg′ → SrWrites s c ks ls reg sr v r ks ls reg′
-    unfolding srWritten regionField
-    lent-ugp h w six = settle s′ c ks ls reg′ e (rw h) six (λ regions. rw h (w regions (vmOf c (tlbOf ks ls))))
+    pub lent-ugp : sr ≡ 0x0A → UserWrites s 2 v reg s′ reg′ → SrWrites s c rs ks ls reg sr v r rs ks ls reg′
+    unfolding srWritten
+    lent-ugp h w six = settle s′ c ks ls reg′ e six (rw h (w rs (vmOf c (tlbOf ks ls))))
 
   pub lent-vctl : sr ≡ 0x40 → r ≡ settled s (control (not (eqb (bitAnd v 1) 0)) (c .ptbr) (c .vfault) (c .«next_victim»))
-      → SrWrites s c ks ls reg sr v r ks ls reg
-  unfolding srWritten regionField
-  lent-vctl h e six = settle s _ ks ls reg e (rw h) six (λ regions. rw (h, flag-is v 0))
+      → SrWrites s c rs ks ls reg sr v r rs ks ls reg
+  unfolding srWritten
+  lent-vctl h e six = settle s _ ks ls reg e six (rw (h, flag-is v 0))
 
-  pub lent-vfault : sr ≡ 0x42 → r ≡ settled s (control (c .enabled) (c .ptbr) v (c .«next_victim»)) → SrWrites s c ks ls reg sr v r ks ls reg
-  unfolding srWritten regionField
-  lent-vfault h e six = settle s _ ks ls reg e (rw h) six (λ regions. rw h)
+  pub lent-vfault : sr ≡ 0x42 → r ≡ settled s (control (c .enabled) (c .ptbr) v (c .«next_victim»)) → SrWrites s c rs ks ls reg sr v r rs ks ls reg
+  unfolding srWritten
+  lent-vfault h e six = settle s _ ks ls reg e six (rw h)
 
   module _ (c′ : Control) (ks′ ls′ : List ℕ) (e : r ≡ settled s c′) where
     pub lent-ptbr : sr ≡ 0x41 → v < 2 ^ 32 → Flushes (control (c .enabled) (bitAnd v 0xFFFF_F000) (c .vfault) (c .«next_victim»)) ks ls c′ ks′ ls′
-        → SrWrites s c ks ls reg sr v r ks′ ls′ reg
-    unfolding srWritten regionField
-    lent-ptbr h l f six = settle s c′ ks′ ls′ reg e (rw h) (f six .1) (λ regions. rw (f six .0, h, page-start v l))
+        → SrWrites s c rs ks ls reg sr v r rs ks′ ls′ reg
+    unfolding srWritten
+    lent-ptbr h l f six = settle s c′ ks′ ls′ reg e (f six .1) (rw (f six .0, h, page-start v l))
 
-    pub lent-tlbflush : sr ≡ 0x43 → Flushes c ks ls c′ ks′ ls′ → SrWrites s c ks ls reg sr v r ks′ ls′ reg
-    unfolding srWritten regionField
-    lent-tlbflush h f six = settle s c′ ks′ ls′ reg e (rw h) (f six .1) (λ regions. rw (f six .0, h))
+    pub lent-tlbflush : sr ≡ 0x43 → Flushes c ks ls c′ ks′ ls′ → SrWrites s c rs ks ls reg sr v r rs ks′ ls′ reg
+    unfolding srWritten
+    lent-tlbflush h f six = settle s c′ ks′ ls′ reg e (f six .1) (rw (f six .0, h))
 
-  pub lent-tlbinv : (ks′ : List ℕ) → sr ≡ 0x44 → DroppedLent (v / 4096) ks ks′ → r ≡ settled s c → SrWrites s c ks ls reg sr v r ks′ ls reg
-  unfolding srWritten regionField invalidated
-  lent-tlbinv ks′ h d e six = settle s c ks′ ls reg e (rw h) (d ls six .1) (λ regions. rw (d ls six .0, h))
+  pub lent-tlbinv : (ks′ : List ℕ) → sr ≡ 0x44 → DroppedLent (v / 4096) ks ks′ → r ≡ settled s c → SrWrites s c rs ks ls reg sr v r rs ks′ ls reg
+  unfolding srWritten invalidated
+  lent-tlbinv ks′ h d e six = settle s c ks′ ls reg e (d ls six .1) (rw (d ls six .0, h))
 
-  pub lent-unnamed : Unnamed sr → r ≡ unnamedLeft s c sr → SrWrites s c ks ls reg sr v r ks ls reg
-  lent-unnamed u e six = rw e (by-place (regionField sr) refl)
-    where
-      by-place : (p : RegionField) → regionField sr ≡ p → Wrote s c ks ls reg sr v (unnamedAt s c (regionField sr)) ks ls reg
-      by-place (At n f) q =
-          rw q
-          (record { place = ap inPlace (sym q); writes = λ d. absurd-eq (cc); keeps = λ d. (refl, refl, refl, refl, refl); sixteen = six })
-      by-place Nothing q =
-          rw q
-          (record {
-            place = ap inPlace (sym q);
-            writes = λ d regions. sym (write-other (stateOf s regions (vmOf c (tlbOf ks ls))) sr reg u v ∙ rw q);
-            keeps = λ d. absurd-eq (cc);
-            sixteen = six;
-          })
+pub lent-unnamed : (s : Status) (c : Control) (rs rs′ : List Region) (ks ls reg : List ℕ) (sr v : ℕ) (x : SrAnswer) → Unnamed sr → RegionWrites rs sr v x rs′
+    → SrWrites s c rs ks ls reg sr v (record { status = s; control = c; answer = x }) rs′ ks ls reg
+lent-unnamed s c rs rs′ ks ls reg sr v x u w six =
+    (w s (vmOf c (tlbOf ks ls)) reg ∙ sym (write-other (stateOf s rs (vmOf c (tlbOf ks ls))) sr reg u v), six)

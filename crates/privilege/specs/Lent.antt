@@ -7,22 +7,32 @@
 --   InPage a n                    == an access of n bytes at a stays in its page; both are 32 bits wide
 --   afterwards s c rs r ks ls     == the state that a check leaves
 --   Checks m s c rs ks ls .. r ks′ ls′ == the check of such an access: its answer and what it leaves, and where its first byte is
---   Answers answer ..             == what both are said by
 --   ChecksLegal                   == the same of a legal size over a good map
+--   Apart, ApartLegal             == both of an access over any pages
+--   ApartPages m c ks ls .. r ks′ ls′ == such an access's check where it is translated, page by page
+--   Comes answer ..               == what they are said by
+--   regionAnswer rs c a n k       == a user's access that is not translated
 use Prim.Native.Nat.{ℕ, _+_, _%_, _^_, _≤_, _<_}
 use mathlib.Core.Path.{_≡_}
+use mathlib.Core.Bool.{cond}
 use mathlib.Core.List.{List, [], _∷_}
 use lib.ListN.{getD}
 use Rattle.memory.specs.Memory.{Memory}
+use Rattle.mmu.specs.Check.{checkEach, pagesOf}
 use Rattle.mmu.specs.Words.{tlbOf, Sixteen, vmOf, withVictim}
+use Rattle.mmu.specs.declared.check.Checked.{Checked}
 use Rattle.mmu.specs.declared.exception.Access.{Access}
+use Rattle.mmu.specs.declared.exception.Exception.the-variants.{ProtectionFault}
 use Rattle.mmu.specs.declared.words.Control.{Control}
 use Rattle.mmu.specs.declared.vm.Vm.{Vm}
-use Rattle.privilege.specs.Access.{checkLegal, checkAccess}
-use Rattle.privilege.specs.Transfer.{physicalOf}
+use Rattle.privilege.specs.Access.{permissionOf, checkLegal, checkAccess}
+use Rattle.privilege.specs.Addresses.{stepped}
+use Rattle.privilege.specs.Region.{allAllowed}
+use Rattle.privilege.specs.Transfer.{frameOf, joinedTo, physicalOf}
 use Rattle.privilege.specs.Trap.{trapped, returned}
 use Rattle.privilege.specs.declared.check.AccessChecked.{AccessChecked}
-use Rattle.privilege.specs.declared.check.Permission.the-variants.{Allowed}
+use Rattle.privilege.specs.declared.check.Permission.{Permission}
+use Rattle.privilege.specs.declared.check.Permission.the-variants.{Allowed, Denied}
 use Rattle.privilege.specs.declared.lent.Permitted.{Permitted}
 use Rattle.privilege.specs.declared.lent.Status.{Status}
 use Rattle.privilege.specs.declared.region.Region.{Region}
@@ -76,16 +86,44 @@ InPage a n = (a % 4096 + n ≤ 4096) × (a < 2 ^ 32)
 abbrev pub afterwards : Status → Control → List Region → Permitted → List ℕ → List ℕ → SystemState
 afterwards s c rs r ks ls = stateOf s rs (vmOf (withVictim c (r .«next_victim»)) (tlbOf ks ls))
 
+-- an answer that read no table word and left the victim
+abbrev pub answered : Permission → ℕ → Control → Permitted
+answered p pa c = record { permission = p; pa = pa; «next_victim» = c .«next_victim»; reads = 0 }
+
+abbrev pub regionAnswer : List Region → Control → ℕ → ℕ → Access → Permitted
+regionAnswer rs c a n k = cond (allAllowed rs k (stepped n a)) (answered Allowed a c) (answered (Denied (ProtectionFault k)) 0 c)
+
 -- the check comes to `answer`
-abbrev pub Answers : AccessChecked → Status → Control → List Region → List ℕ → List ℕ → ℕ → ℕ → Permitted → List ℕ → List ℕ → Type 0
-Answers answer s c rs ks ls a n r ks′ ls′ =
-    Sixteen ks ls → InPage a n
-    → (_≡_ {A = AccessChecked} (record { sys = afterwards s c rs r ks′ ls′; permission = r .permission; reads = r .reads }) answer)
+abbrev pub Comes : AccessChecked → Status → Control → List Region → ℕ → Permitted → List ℕ → List ℕ → Type 0
+Comes answer s c rs a r ks′ ls′ =
+    (_≡_ {A = AccessChecked} (record { sys = afterwards s c rs r ks′ ls′; permission = r .permission; reads = r .reads }) answer)
     × (r .permission ≡ Allowed → physicalOf (afterwards s c rs r ks′ ls′) a ≡ r .pa)
     × Sixteen ks′ ls′
 
 abbrev pub Checks : Memory → Status → Control → List Region → List ℕ → List ℕ → ℕ → ℕ → Access → Permitted → List ℕ → List ℕ → Type 0
-Checks m s c rs ks ls a n k r ks′ ls′ = Answers (checkAccess m (stateOf s rs (vmOf c (tlbOf ks ls))) a n k) s c rs ks ls a n r ks′ ls′
+Checks m s c rs ks ls a n k r ks′ ls′ =
+    Sixteen ks ls → InPage a n → Comes (checkAccess m (stateOf s rs (vmOf c (tlbOf ks ls))) a n k) s c rs a r ks′ ls′
 
 abbrev pub ChecksLegal : Memory → Status → Control → List Region → List ℕ → List ℕ → ℕ → ℕ → Access → Permitted → List ℕ → List ℕ → Type 0
-ChecksLegal m s c rs ks ls a n k r ks′ ls′ = (0 < n) → Answers (checkLegal m (stateOf s rs (vmOf c (tlbOf ks ls))) a n k) s c rs ks ls a n r ks′ ls′
+ChecksLegal m s c rs ks ls a n k r ks′ ls′ =
+    (0 < n) → Sixteen ks ls → InPage a n → Comes (checkLegal m (stateOf s rs (vmOf c (tlbOf ks ls))) a n k) s c rs a r ks′ ls′
+
+-- ---- over any pages
+
+abbrev pub Apart : Memory → Status → Control → List Region → List ℕ → List ℕ → ℕ → ℕ → Access → Permitted → List ℕ → List ℕ → Type 0
+Apart m s c rs ks ls a n k r ks′ ls′ = Sixteen ks ls → Comes (checkAccess m (stateOf s rs (vmOf c (tlbOf ks ls))) a n k) s c rs a r ks′ ls′
+
+abbrev pub ApartLegal : Memory → Status → Control → List Region → List ℕ → List ℕ → ℕ → ℕ → Access → Permitted → List ℕ → List ℕ → Type 0
+ApartLegal m s c rs ks ls a n k r ks′ ls′ = Sixteen ks ls → Comes (checkLegal m (stateOf s rs (vmOf c (tlbOf ks ls))) a n k) s c rs a r ks′ ls′
+
+abbrev pub pagesChecked : Memory → Control → List ℕ → List ℕ → ℕ → ℕ → Access → Checked
+pagesChecked m c ks ls a n k = checkEach m k (vmOf c (tlbOf ks ls)) (pagesOf a n)
+
+-- an answer by the check of its pages
+abbrev pub pagesAnswer : Checked → ℕ → Permitted
+pagesAnswer d a =
+    record { permission = permissionOf (d .verdict); pa = joinedTo (frameOf (d .vm) a) a; «next_victim» = d .vm .«next_victim»; reads = d .reads }
+
+abbrev pub ApartPages : Memory → Control → List ℕ → List ℕ → ℕ → ℕ → Access → Permitted → List ℕ → List ℕ → Type 0
+ApartPages m c ks ls a n k r ks′ ls′ =
+    (r ≡ pagesAnswer (pagesChecked m c ks ls a n k) a) × (tlbOf ks′ ls′ ≡ pagesChecked m c ks ls a n k .vm .tlb) × Sixteen ks′ ls′

@@ -4,6 +4,7 @@ pub mod Trap
 pub mod Lent
 pub mod Run
 pub mod Region
+pub mod RegionWords
 pub mod Registers
 pub mod RegistersLent
 pub mod Access

@@ -3,15 +3,18 @@
 ghost use mathlib.Core.Path.{_≡_};
 ghost use mathlib.Core.List.{[], _∷_};
 ghost use Rattle.memory.specs.Memory.{lent};
-ghost use Rattle.privilege.specs.Lent.{stateOf, exchangedWith, Traps, Returns, Checks, ChecksLegal};
+ghost use Rattle.mmu.specs.Words.{tlbOf, vmOf};
+ghost use Rattle.privilege.specs.Lent.{stateOf, exchangedWith, Traps, Returns, answered, regionAnswer, Checks, ChecksLegal, Apart, ApartLegal, ApartPages};
+ghost use Rattle.privilege.specs.RegionWords.{regionsOf};
 ghost use Rattle.privilege.specs.Trap.{withBank};
 use crate::check::Permission;
 use crate::check::legal_size;
 use crate::check::permission_of;
 use crate::region::Region;
-use crate::region::all_allowed;
+use crate::region_words::all_allowed_in;
 use crate::state::InstructionMode;
 use crate::state::SystemState;
+use crate::transfer::frame_of;
 use crate::transfer::join;
 use common::Refusal;
 use memory::good_map;
@@ -20,6 +23,8 @@ use mmu::exception::Exception;
 use mmu::vm::Vm;
 use mmu::words::Control;
 use mmu::words::check_lent;
+use mmu::words::put_tlb;
+use mmu::words::tlb_of;
 
 // `SystemState` beside its regions and its translation. The other mode's bank is three numbers.
 pub struct Status {
@@ -144,7 +149,7 @@ pub struct Permitted {
 pub fn check_access(
     s: Status,
     c: Control,
-    regions: [Region; 8],
+    regions: &[u32; 24],
     keys: &mut [u64; 16],
     leaves: &mut [u64; 16],
     mem: &[u8],
@@ -153,7 +158,7 @@ pub fn check_access(
     len: u32,
     access: Access,
 ) -> Permitted
-    ensures { λ r. ⌜ Checks (lent base (now (mem .entry))) s c regions (now (keys .entry)) (now (leaves .entry)) addr len access r (now (keys .exit)) (now (leaves .exit)) ⌝ }
+    ensures { λ r. ⌜ Checks (lent base (now (mem .entry))) s c (regionsOf (now (regions .entry))) (now (keys .entry)) (now (leaves .entry)) addr len access r (now (keys .exit)) (now (leaves .exit)) ⌝ }
 {
     if good_map(mem, base) {
         if legal_size(len, access) {
@@ -165,7 +170,7 @@ pub fn check_access(
 }
 
 fn answer(permission: Permission, pa: u32, c: Control) -> Permitted
-    ensures { λ r. ⌜ r ≡ record { permission = permission; pa = pa; «next_victim» = c .«next_victim»; reads = 0 } ⌝ }
+    ensures { λ r. ⌜ r ≡ answered permission pa c ⌝ }
 {
     Permitted {
         permission,
@@ -175,11 +180,21 @@ fn answer(permission: Permission, pa: u32, c: Control) -> Permitted
     }
 }
 
+// A user's access that is not translated.
+fn check_regions(c: Control, regions: &[u32; 24], addr: u32, len: u32, access: Access) -> Permitted
+    ensures { λ r. ⌜ r ≡ regionAnswer (regionsOf (now (regions .entry))) c addr len access ⌝ }
+{
+    if all_allowed_in(regions, addr, len, access) {
+        return answer(Permission::Allowed, addr, c);
+    }
+    answer(Permission::Denied(Exception::ProtectionFault(access)), 0, c)
+}
+
 // An access of a legal size over a good map.
 fn check_legal(
     s: Status,
     c: Control,
-    regions: [Region; 8],
+    regions: &[u32; 24],
     keys: &mut [u64; 16],
     leaves: &mut [u64; 16],
     mem: &[u8],
@@ -188,7 +203,7 @@ fn check_legal(
     len: u32,
     access: Access,
 ) -> Permitted
-    ensures { λ r. ⌜ ChecksLegal (lent base (now (mem .entry))) s c regions (now (keys .entry)) (now (leaves .entry)) addr len access r (now (keys .exit)) (now (leaves .exit)) ⌝ }
+    ensures { λ r. ⌜ ChecksLegal (lent base (now (mem .entry))) s c (regionsOf (now (regions .entry))) (now (keys .entry)) (now (leaves .entry)) addr len access r (now (keys .exit)) (now (leaves .exit)) ⌝ }
 {
     if s.user {
         if c.enabled {
@@ -201,10 +216,95 @@ fn check_legal(
                 reads: found.reads,
             };
         }
-        if all_allowed(regions, addr, len, access) {
-            return answer(Permission::Allowed, addr, c);
-        }
-        return answer(Permission::Denied(Exception::ProtectionFault(access)), 0, c);
+        return check_regions(c, regions, addr, len, access);
     }
     answer(Permission::Allowed, addr, c)
+}
+
+// `check_access`, of an access over two pages: its TLB goes by value, and its words are written anew.
+pub fn check_apart(
+    s: Status,
+    c: Control,
+    regions: &[u32; 24],
+    keys: &mut [u64; 16],
+    leaves: &mut [u64; 16],
+    mem: &[u8],
+    base: u32,
+    addr: u32,
+    len: u32,
+    access: Access,
+) -> Permitted
+    ensures { λ r. ⌜ Apart (lent base (now (mem .entry))) s c (regionsOf (now (regions .entry))) (now (keys .entry)) (now (leaves .entry)) addr len access r (now (keys .exit)) (now (leaves .exit)) ⌝ }
+{
+    if good_map(mem, base) {
+        if legal_size(len, access) {
+            return apart_legal(s, c, regions, keys, leaves, mem, base, addr, len, access);
+        }
+        return answer(Permission::Refused(Refusal::Size), 0, c);
+    }
+    answer(Permission::Refused(Refusal::Map), 0, c)
+}
+
+// The same of a legal size over a good map.
+fn apart_legal(
+    s: Status,
+    c: Control,
+    regions: &[u32; 24],
+    keys: &mut [u64; 16],
+    leaves: &mut [u64; 16],
+    mem: &[u8],
+    base: u32,
+    addr: u32,
+    len: u32,
+    access: Access,
+) -> Permitted
+    ensures { λ r. ⌜ ApartLegal (lent base (now (mem .entry))) s c (regionsOf (now (regions .entry))) (now (keys .entry)) (now (leaves .entry)) addr len access r (now (keys .exit)) (now (leaves .exit)) ⌝ }
+{
+    if s.user {
+        if c.enabled {
+            return apart_pages(c, keys, leaves, mem, base, addr, len, access);
+        }
+        return check_regions(c, regions, addr, len, access);
+    }
+    answer(Permission::Allowed, addr, c)
+}
+
+fn vm_of(c: Control, keys: &[u64; 16], leaves: &[u64; 16]) -> Vm
+    ensures { λ r. ⌜ r ≡ vmOf c (tlbOf (now (keys .entry)) (now (leaves .entry))) ⌝ }
+{
+    let tlb = tlb_of(*keys, *leaves);
+    Vm {
+        enabled: c.enabled,
+        ptbr: c.ptbr,
+        vfault: c.vfault,
+        tlb,
+        next_victim: c.next_victim,
+    }
+}
+
+// Each page of a translated access.
+fn apart_pages(
+    c: Control,
+    keys: &mut [u64; 16],
+    leaves: &mut [u64; 16],
+    mem: &[u8],
+    base: u32,
+    addr: u32,
+    len: u32,
+    access: Access,
+) -> Permitted
+    ensures { λ r. ⌜ ApartPages (lent base (now (mem .entry))) c (now (keys .entry)) (now (leaves .entry)) addr len access r (now (keys .exit)) (now (leaves .exit)) ⌝ }
+{
+    let vm = vm_of(c, keys, leaves);
+    let checked = vm.check_pages(mem, base, addr, len, access);
+    let after = checked.vm;
+    let verdict = checked.verdict;
+    let tlb = after.tlb;
+    put_tlb(keys, leaves, tlb);
+    Permitted {
+        permission: permission_of(verdict),
+        pa: join(frame_of(after, addr), addr),
+        next_victim: after.next_victim,
+        reads: checked.reads,
+    }
 }

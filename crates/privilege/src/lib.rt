@@ -10,6 +10,7 @@ pub mod check;
 pub mod debug;
 pub mod lent;
 pub mod region;
+pub mod region_words;
 pub mod registers;
 pub mod registers_lent;
 pub mod run;

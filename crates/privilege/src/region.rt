@@ -1,8 +1,9 @@
 // Regions: which addresses a user may touch while translation is off.
 ghost use mathlib.Core.Path.{_≡_};
 ghost use Rattle.privilege.specs.Addresses.{stepped};
-ghost use Rattle.privilege.specs.Region.{grantsOf, someGrants, byteAllowed, allAllowed, fieldOf, withField, fieldWritten};
-use mmu::check::CPU_RESERVED_BASE;
+ghost use Rattle.privilege.specs.Region.{grantsOf, allAllowed, fieldOf, withField, fieldWritten};
+use crate::region_words::all_allowed_in;
+use crate::region_words::put_regions;
 use mmu::exception::Access;
 use mmu::exception::region_bit;
 
@@ -73,46 +74,11 @@ pub fn write_field(regions: [Region; 8], n: usize, field: usize, value: u32) -> 
     left
 }
 
-fn some_grants(regions: [Region; 8], addr: u32, access: Access) -> bool
-    ensures { λ r. ⌜ r ≡ someGrants regions addr access ⌝ }
-{
-    let mut i: usize = 0;
-    loop {
-        if i >= REGION_COUNT {
-            break false;
-        }
-        let region = regions[i];
-        if region.grants(addr, access) {
-            break true;
-        }
-        i += 1;
-    }
-}
-
-fn byte_allowed(regions: [Region; 8], addr: u32, access: Access) -> bool
-    ensures { λ r. ⌜ r ≡ byteAllowed regions access addr ⌝ }
-{
-    if addr >= CPU_RESERVED_BASE {
-        return false;
-    }
-    some_grants(regions, addr, access)
-}
-
 // Every byte of an access.
 pub fn all_allowed(regions: [Region; 8], addr: u32, len: u32, access: Access) -> bool
     ensures { λ r. ⌜ r ≡ allAllowed regions access (stepped len addr) ⌝ }
 {
-    let mut byte = addr;
-    let mut left = len;
-    loop {
-        if left == 0 {
-            break true;
-        }
-        if byte_allowed(regions, byte, access) {
-            byte = std::num::wrapping_add_u32(byte, 1);
-            left -= 1;
-        } else {
-            break false;
-        }
-    }
+    let mut words = [0u32; 24];
+    put_regions(&mut words, regions);
+    all_allowed_in(&words, addr, len, access)
 }

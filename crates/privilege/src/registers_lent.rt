@@ -1,10 +1,15 @@
-// System registers of an owner that keeps its arrays: `read_sr` and `write_sr` where the registers and the TLB's words stand.
+// System registers of an owner that keeps its arrays: `read_sr` and `write_sr` where the registers and the words of regions and
+// TLB stand.
 ghost use mathlib.Core.Path.{_≡_};
 ghost use mathlib.Core.Bool.{cond};
 ghost use Prim.Native.Nat.{_<_};
-ghost use Rattle.privilege.specs.RegistersLent.{settled, unnamedLeft, StatusReads, StatusWrites, UserWrites, RegionReads, Flushes, SrReads, SrWrites};
+ghost use Rattle.privilege.specs.RegistersLent.{settled, StatusReads, StatusWrites, UserWrites, RegionReads, RegionWrites, Flushes, SrReads, SrWrites};
+ghost use Rattle.privilege.specs.RegionWords.{regionsOf};
 use crate::lent::Status;
-use crate::region::Region;
+use crate::region::write_field;
+use crate::region_words::put_regions;
+use crate::region_words::region_at;
+use crate::region_words::regions_of;
 use crate::registers::RegionField;
 use crate::registers::SR_CAUSE;
 use crate::registers::SR_EPC;
@@ -40,9 +45,6 @@ use mmu::words::Control;
 pub struct SrLent {
     pub status: Status,
     pub control: Control,
-    // False for a region's register: nothing has moved, and the owner, who has the regions, writes it by value.
-    pub done: bool,
-    // Of a write that is done.
     pub answer: SrAnswer,
 }
 
@@ -102,15 +104,28 @@ fn write_user(mut s: Status, index: usize, value: u32, reg: &mut [u32; 32]) -> S
 }
 
 // `read_region`.
-fn read_region(regions: [Region; 8], sr: u16) -> SrRead
-    ensures { λ r. ⌜ RegionReads regions sr r ⌝ }
+fn read_region(regions: &[u32; 24], sr: u16) -> SrRead
+    ensures { λ r. ⌜ RegionReads (regionsOf (now (regions .entry))) sr r ⌝ }
 {
     let place = region_field(sr);
     let RegionField::At(n, field) = place else {
         return SrRead::Refused(Refusal::Register);
     };
-    let region = regions[n];
+    let region = region_at(regions, n);
     SrRead::Value(region.field(field))
+}
+
+// `write_region`.
+fn write_region(regions: &mut [u32; 24], sr: u16, value: u32) -> SrAnswer
+    ensures { λ r. ⌜ RegionWrites (regionsOf (now (regions .entry))) sr value r (regionsOf (now (regions .exit))) ⌝ }
+{
+    let place = region_field(sr);
+    let RegionField::At(n, field) = place else {
+        return SrAnswer::Refused(Refusal::Register);
+    };
+    let old = regions_of(regions);
+    put_regions(regions, write_field(old, n, field, value));
+    SrAnswer::Done
 }
 
 // `flush`, with the victim.
@@ -129,35 +144,13 @@ fn done(status: Status, control: Control) -> SrLent
     SrLent {
         status,
         control,
-        done: true,
         answer: SrAnswer::Done,
     }
 }
 
-// A number that is left: a region's is the owner's, any other is refused.
-fn unnamed(status: Status, control: Control, sr: u16) -> SrLent
-    ensures { λ r. ⌜ r ≡ unnamedLeft status control sr ⌝ }
-{
-    let place = region_field(sr);
-    let RegionField::Nothing = place else {
-        return SrLent {
-            status,
-            control,
-            done: false,
-            answer: SrAnswer::Done,
-        };
-    };
-    SrLent {
-        status,
-        control,
-        done: true,
-        answer: SrAnswer::Refused(Refusal::Register),
-    }
-}
-
 // MFSR, as `read_sr`.
-pub fn read_sr_lent(s: Status, c: Control, regions: [Region; 8], reg: &[u32; 32], sr: u16) -> SrRead
-    ensures { λ r. ⌜ SrReads s c regions (now (reg .entry)) sr r ⌝ }
+pub fn read_sr_lent(s: Status, c: Control, regions: &[u32; 24], reg: &[u32; 32], sr: u16) -> SrRead
+    ensures { λ r. ⌜ SrReads s c (regionsOf (now (regions .entry))) (now (reg .entry)) sr r ⌝ }
 {
     match sr {
         SR_STATUS => SrRead::Value(status_word(s)),
@@ -179,13 +172,14 @@ pub fn read_sr_lent(s: Status, c: Control, regions: [Region; 8], reg: &[u32; 32]
 pub fn write_sr_lent(
     mut s: Status,
     mut c: Control,
+    regions: &mut [u32; 24],
     keys: &mut [u64; 16],
     leaves: &mut [u64; 16],
     reg: &mut [u32; 32],
     sr: u16,
     value: u32,
 ) -> SrLent
-    ensures { λ r. ⌜ SrWrites s c (now (keys .entry)) (now (leaves .entry)) (now (reg .entry)) sr value r (now (keys .exit)) (now (leaves .exit)) (now (reg .exit)) ⌝ }
+    ensures { λ r. ⌜ SrWrites s c (regionsOf (now (regions .entry))) (now (keys .entry)) (now (leaves .entry)) (now (reg .entry)) sr value r (regionsOf (now (regions .exit))) (now (keys .exit)) (now (leaves .exit)) (now (reg .exit)) ⌝ }
 {
     match sr {
         SR_STATUS => done(set_status(s, value), c),
@@ -217,6 +211,13 @@ pub fn write_sr_lent(
             invalidate_lent(keys, value >> 12);
             done(s, c)
         }
-        _ => unnamed(s, c, sr),
+        _ => {
+            let answer = write_region(regions, sr, value);
+            SrLent {
+                status: s,
+                control: c,
+                answer,
+            }
+        }
     }
 }

@@ -39,7 +39,7 @@ pub struct SystemState {
     pub vm: Vm,
 }
 
-pub(crate) fn is_short(mode: InstructionMode) -> bool
+pub fn is_short(mode: InstructionMode) -> bool
     ensures { λ r. ⌜ r ≡ isShort mode ⌝ }
 {
     match mode {

@@ -30,7 +30,7 @@ pub enum DataWritten {
 }
 
 // The page number that a resident page leads to, 0 where none is.
-fn frame_of(vm: Vm, va: u32) -> u32
+pub(crate) fn frame_of(vm: Vm, va: u32) -> u32
     ensures { λ r. ⌜ r ≡ frameOf vm va ⌝ }
 {
     let slot = vm.lookup(va >> 12);

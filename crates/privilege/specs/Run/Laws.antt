@@ -2,6 +2,7 @@
 --
 --   run-spots        == an access that stays in its page finds its bytes in a row
 --   load-run, store-run, memory-run == so its data is what stands there
+--   load-word        == a word of a good map that has all its bytes
 use Prim.Native.Nat.{ℕ, _+_, _%_, _^_, _<_}
 use mathlib.Core.Path.{_≡_, refl, sym, ap, _∙_}
 use mathlib.Core.Bool.{Bool, true, false, cond, _||_}
@@ -12,7 +13,8 @@ use borrow.Author.Tests.{eqb-true}
 use Rattle.common.specs.Cases.{absurd-eq}
 use Rattle.common.specs.Bytes.{bytesOf}
 use Rattle.common.specs.declared.Refusal.{Refusal}
-use Rattle.memory.specs.Memory.{Memory, readAt, putAt, allInside}
+use Rattle.memory.specs.Memory.{Memory, readAt, putAt, allInside, wordSpots}
+use Rattle.memory.specs.declared.Content.the-variants as content
 use Rattle.privilege.specs.Access.{fetchSize, dataSize, gated, mapGood}
 use Rattle.privilege.specs.Lent.{InPage}
 use Rattle.privilege.specs.Run.{runOf}
@@ -72,3 +74,7 @@ module _ (m : Memory) (s : SystemState) (a n v : ℕ) (p : InPage a n) where
   pub memory-run : memoryAt m n (spots s a n) v ≡ memoryAt m n (runOf n (physicalOf s a)) v
   unfolding memoryAt
   memory-run = same (λ (b : Bool) (l : List ℕ). gated (mapGood m) b (putAt m l (bytesOf n v)) (λ (r : Refusal). m)) (λ l l′. refl)
+
+pub load-word : (m : Memory) (a v : ℕ) → mapGood m ≡ true → readAt m (wordSpots a) ≡ content.Value v → loadAt m 4 (runOf 4 a) ≡ read.Value v
+unfolding loadAt runOf dataSize fetchSize
+load-word m a v g h = rw (g, h)

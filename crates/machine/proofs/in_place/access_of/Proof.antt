@@ -1,16 +1,17 @@
 -- `machine::in_place::access_of` meets its contract. Assumes nothing.
-use borrow.Author.Tests.{eq-eqb, ne-eqb}
+use Rattle.machine.proofs.Moves.{kind-load, kind-store, kind-fetch}
+use borrow.Author.Needs.{needs}
 use Rattle.machine.proofs.in_place.access_of.Statement.{statement}
 use Rattle.machine.proofs.in_place.access_of.Tie as tie
 
 returns : tie.Need-returns
-returns c = rw (eq-eqb _ _ (c .if1 .taken))
+returns c = search (kind-load, needs)
 
 returns-2 : tie.Need-returns-2
-returns-2 c = rw (ne-eqb _ _ (c .before .if1 .left), eq-eqb _ _ (c .if2 .taken))
+returns-2 c = search (kind-store, needs)
 
 returns-3 : tie.Need-returns-3
-returns-3 c = rw (ne-eqb _ _ (c .before .if1 .left), ne-eqb _ _ (c .if2 .left))
+returns-3 c = search (kind-fetch, needs)
 
 pub access-of-spec : {M : Type 1} → statement M
 access-of-spec = tie.close (tie.spec returns returns-2 returns-3)

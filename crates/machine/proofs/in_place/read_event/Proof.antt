@@ -1,8 +1,14 @@
 -- `machine::in_place::read_event` meets its contract. Assumes nothing.
-use Rattle.machine.proofs.RegisterEvents.{reads-value, reads-refused}
+use Rattle.machine.proofs.StateEvents.{reads-value, reads-refused}
 use borrow.Author.Needs.{needs}
 use Rattle.machine.proofs.in_place.read_event.Statement.{statement}
 use Rattle.machine.proofs.in_place.read_event.Tie as tie
+
+status-in-requires : tie.Need-status-in-requires
+status-in-requires c κs = search needs
+
+control-in-requires : tie.Need-control-in-requires
+control-in-requires c κs = search needs
 
 read-sr-lent-requires : tie.Need-read-sr-lent-requires
 read-sr-lent-requires c κs = search needs
@@ -29,6 +35,8 @@ pub read-event-spec : {M : Type 1} → statement M
 read-event-spec =
     tie.close
     (tie.spec
+    status-in-requires
+    control-in-requires
     read-sr-lent-requires
     enum-known-read
     shows-requires

@@ -1,5 +1,5 @@
 -- `machine::in_place::refuses` meets its contract. Assumes nothing.
-use Rattle.machine.proofs.RegisterEvents.{refusing-is}
+use Rattle.machine.proofs.StateEvents.{refusing-is}
 use borrow.Author.Needs.{needs}
 use Rattle.machine.proofs.in_place.refuses.Statement.{statement}
 use Rattle.machine.proofs.in_place.refuses.Tie as tie

@@ -1,5 +1,5 @@
--- `machine::in_place::register_event` meets its contract: R0 to R31 are set where they stand. Assumes nothing.
-use Rattle.machine.proofs.StateEvents.{shows-register, elsewhere-shows}
+-- `machine::in_place::register_event` meets its contract. Assumes nothing.
+use Rattle.machine.proofs.StateEvents.{shows-register, refuses-register}
 use borrow.Author.Needs.{needs}
 use Rattle.machine.proofs.in_place.register_event.Statement.{statement}
 use Rattle.machine.proofs.in_place.register_event.Tie as tie
@@ -19,11 +19,11 @@ shows-requires c κs = search needs
 returns : tie.Need-returns
 returns c = search (shows-register, needs)
 
-elsewhere-requires : tie.Need-elsewhere-requires
-elsewhere-requires c κs = search needs
+refuses-requires : tie.Need-refuses-requires
+refuses-requires c κs = search needs
 
 returns-2 : tie.Need-returns-2
-returns-2 c = search (elsewhere-shows, needs)
+returns-2 c = search (refuses-register, needs)
 
 pub register-event-spec : {M : Type 1} → statement M
 register-event-spec =
@@ -34,5 +34,5 @@ register-event-spec =
     element-write-reg
     shows-requires
     returns
-    elsewhere-requires
+    refuses-requires
     returns-2)

@@ -1,5 +1,5 @@
 -- `privilege::lent::check_legal` meets its contract: the page decides, or the regions do. Assumes nothing.
-use Rattle.privilege.proofs.ChecksLent.{legal-paged, legal-granted, legal-denied, legal-supervisor}
+use Rattle.privilege.proofs.ChecksLent.{legal-paged, legal-regions, legal-supervisor}
 use borrow.Author.Needs.{needs}
 use Rattle.privilege.proofs.lent.check_legal.Statement.{statement}
 use Rattle.privilege.proofs.lent.check_legal.Tie as tie
@@ -16,26 +16,17 @@ join-requires c κs = search needs
 returns : tie.Need-returns
 returns c = search (legal-paged, needs)
 
-all-allowed-requires : tie.Need-all-allowed-requires
-all-allowed-requires c κs = search needs
+check-regions-requires : tie.Need-check-regions-requires
+check-regions-requires c κs = search needs
+
+returns-2 : tie.Need-returns-2
+returns-2 c = search (legal-regions, needs)
 
 answer-requires : tie.Need-answer-requires
 answer-requires c κs = search needs
 
-returns-2 : tie.Need-returns-2
-returns-2 c = search (legal-granted, needs)
-
-answer-requires-2 : tie.Need-answer-requires-2
-answer-requires-2 c κs = search needs
-
 returns-3 : tie.Need-returns-3
-returns-3 c = search (legal-denied, needs)
-
-answer-requires-3 : tie.Need-answer-requires-3
-answer-requires-3 c κs = search needs
-
-returns-4 : tie.Need-returns-4
-returns-4 c = search (legal-supervisor, needs)
+returns-3 c = search (legal-supervisor, needs)
 
 pub check-legal-spec : {M : Type 1} → statement M
 check-legal-spec =
@@ -45,10 +36,7 @@ check-legal-spec =
     permission-of-requires
     join-requires
     returns
-    all-allowed-requires
-    answer-requires
+    check-regions-requires
     returns-2
-    answer-requires-2
-    returns-3
-    answer-requires-3
-    returns-4)
+    answer-requires
+    returns-3)

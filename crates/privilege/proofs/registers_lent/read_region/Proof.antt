@@ -1,9 +1,6 @@
 -- `privilege::registers_lent::read_region` meets its contract: the number is no region's, or a field's. Assumes nothing.
 use borrow.Author.Needs.{needs}
-use mathlib.Core.Path.{sym, _∙_}
-use native.Mathlib.Omega.{arith}
-use Rattle.privilege.proofs.Numbers.{field-bound}
-use Rattle.privilege.proofs.NumbersLent.{lent-read-unknown, lent-read-field}
+use Rattle.privilege.proofs.NumbersLent.{lent-bound, lent-read-unknown, lent-read-field}
 use Rattle.privilege.proofs.registers_lent.read_region.Statement.{statement}
 use Rattle.privilege.proofs.registers_lent.read_region.Tie as tie
 
@@ -19,11 +16,8 @@ enum-told c = search needs
 returns : tie.Need-returns
 returns c = search (lent-read-unknown, needs)
 
-mul-region : tie.Need-mul-region
-mul-region c = omega (arith, field-bound _ _ _ (sym (c .before .before .before .region-field .ensures) ∙ c .before .place .given .1))
-
-array-copy-out-region : tie.Need-array-copy-out-region
-array-copy-out-region c = omega (arith, field-bound _ _ _ (sym (c .before .before .before .region-field .ensures) ∙ c .before .place .given .1))
+region-at-requires : tie.Need-region-at-requires
+region-at-requires c κs = search (lent-bound, needs)
 
 field-requires : tie.Need-field-requires
 field-requires c κs = search needs
@@ -39,7 +33,6 @@ read-region-spec =
     enum-known-place
     enum-told
     returns
-    mul-region
-    array-copy-out-region
+    region-at-requires
     field-requires
     returns-2)

@@ -61,8 +61,8 @@ invalidate-lent-requires c κs = search needs
 done-requires-11 : tie.Need-done-requires-11
 done-requires-11 c κs = search needs
 
-unnamed-requires : tie.Need-unnamed-requires
-unnamed-requires c κs = search needs
+write-region-requires : tie.Need-write-region-requires
+write-region-requires c κs = search needs
 
 returns : tie.Need-returns
 returns c = search (lent-status, needs)
@@ -123,7 +123,7 @@ write-sr-lent-spec =
     done-requires-10
     invalidate-lent-requires
     done-requires-11
-    unnamed-requires
+    write-region-requires
     returns
     returns-2
     returns-3
