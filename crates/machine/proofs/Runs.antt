@@ -160,6 +160,10 @@ pub parts-are : (M : Machine) (p : Parts) (rg : Range) (rs : List Region) (ks ls
     → tlbOf ks ls ≡ M .sys .vm .tlb → machineOf rg rs p (arrays ks ls (M .reg) (M .cache .i .tags) (M .cache .d .tags)) ≡ M
 parts-are M p rg rs ks ls u h r t = rw (h, r) (u ks ls t)
 
+-- the event of a place that goes along
+pub event-here : (s : List ℕ) (e : Event) (from first k : ℕ) → e ≡ eventAt s from → from ≡ first + 12 * k → e ≡ eventAt s (first + 12 * k)
+event-here s e from first k h p = h ∙ ap (eventAt s) p
+
 -- the count of the next event fits where the number of events does
 pub next-fits : (k n : ℕ) → k < n → n < 2 ^ 32 → Fits w32 (k + 1)
 next-fits k n h f = record { fits = omega (arith, h, f) }

@@ -18,6 +18,7 @@ use listing::put_line;
 use listing::put_refused;
 use mmu::words::put_tlb;
 use privilege::region_words::put_regions;
+use script::EVENT_SIZE;
 use script::header::Header;
 use script::header::Script;
 use script::header::copy_image;
@@ -66,8 +67,9 @@ impl Machine {
         let mut totals = Totals::new();
         let mut place = at;
         let mut k: u32 = 0;
+        let mut from = first as usize;
         while k < count {
-            let event = event_of(script, (first as usize) + 12 * (k as usize));
+            let event = event_of(script, from);
             let line = step(
                 &mut parts,
                 range,
@@ -84,6 +86,7 @@ impl Machine {
             totals = totals.add(line);
             place = put_line(out, place, k, line);
             k += 1;
+            from += EVENT_SIZE;
         }
         Ran {
             machine: machine_of(&parts, range, &regions, keys, leaves, reg, itags, dtags),

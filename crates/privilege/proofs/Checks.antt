@@ -42,6 +42,13 @@ module _ (n : ℕ) where
   unfolding dataSize fetchSize
   size-none a b d = rw (ne-eqb n 1 a, ne-eqb n 2 b, ne-eqb n 4 d)
 
+  -- a word is legal for each access
+  pub word-size : n ≡ 4 → (k : Access) → true ≡ legalSize k n
+  unfolding legalSize dataSize fetchSize
+  word-size h Read = rw h
+  word-size h Write = rw h
+  word-size h Fetch = rw h
+
   module _ (k : Access) (r : Bool) where
     pub read-size : k ≡ Read → r ≡ dataSize n → r ≡ legalSize k n
     unfolding legalSize

@@ -43,9 +43,13 @@ pub fn data_size(size: u32) -> bool
     fetch_size(size)
 }
 
+// A word is legal for every access, and frequent: it is asked first.
 pub(crate) fn legal_size(size: u32, access: Access) -> bool
     ensures { λ r. ⌜ r ≡ legalSize access size ⌝ }
 {
+    if size == 4 {
+        return true;
+    }
     match access {
         Access::Read => data_size(size),
         Access::Write => data_size(size),
