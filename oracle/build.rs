@@ -118,7 +118,7 @@ fn link_port(home: &Path) {
                 "cargo:warning={program} wants target/staticlib/lib{name}.a: rt staticlib {name} makes it"
             );
         }
-        let linked = if name == "race" {
+        let linked = if name == "race" && library.exists() {
             placed(&library)
         } else {
             library
