@@ -5,8 +5,7 @@ use mathlib.Core.Bool.{Bool, true, false, cond}
 use mathlib.Core.List.{List}
 use lib.Dec.{eqb}
 use borrow.Author.Tests.{ne-eqb}
-use Rattle.cache.specs.Cache.{loaded, fetched, stored}
-use Rattle.cache.specs.Lent.{lentBank, lentCache, Touches, Snoops}
+use Rattle.cache.specs.Lent.{lentBank, Touches, Snoops}
 use Rattle.cache.specs.declared.CacheAccess.{CacheAccess}
 use Rattle.cache.specs.declared.lent.Counts.{Counts}
 use Rattle.cache.specs.declared.lent.Range.{Range}
@@ -16,20 +15,19 @@ use Rattle.listing.specs.declared.Line.{Line}
 use Rattle.memory.specs.Memory.{Memory, lent, readAt, wordSpots}
 use Rattle.memory.specs.declared.Content.{Content}
 use Rattle.memory.specs.declared.Content.the-variants as content
-use Rattle.mmu.specs.Words.{tlbOf, Sixteen, vmOf, withVictim}
+use Rattle.mmu.specs.Words.{tlbOf, vmOf, withVictim}
 use Rattle.mmu.specs.declared.exception.Access.{Access}
 use Rattle.mmu.specs.declared.exception.Access.the-variants.{Read, Write, Fetch}
 use Rattle.mmu.specs.declared.exception.Exception.{Exception}
 use Rattle.mmu.specs.declared.words.Control.{Control}
 use Rattle.privilege.specs.Access.{checkAccess, accessAnswered, mapGood}
 use Rattle.privilege.specs.Access.Laws.{refused-nothing}
-use Rattle.privilege.specs.Lent.{stateOf, InPage, afterwards, Comes, Checks, Apart}
+use Rattle.privilege.specs.Lent.{stateOf, afterwards, Comes, Checks, Apart}
 use Rattle.privilege.specs.Run.{runOf}
 use Rattle.privilege.specs.Run.Laws.{load-run, store-run, memory-run, load-word}
 use Rattle.privilege.specs.Transfer.{physicalOf, spots, loadAt, storeAt, memoryAt, dataRead, dataWritten, memoryAfter}
 use Rattle.privilege.specs.Transfer.Laws.{store-map}
 use Rattle.privilege.specs.declared.check.AccessChecked.{AccessChecked}
-use Rattle.privilege.specs.declared.check.Permission.{Permission}
 use Rattle.privilege.specs.declared.check.Permission.the-variants.{Allowed, Denied, Refused}
 use Rattle.privilege.specs.declared.lent.Permitted.{Permitted}
 use Rattle.privilege.specs.declared.lent.Status.{Status}
@@ -38,9 +36,9 @@ use Rattle.privilege.specs.declared.state.SystemState.{SystemState}
 use Rattle.privilege.specs.declared.transfer.DataRead.{DataRead}
 use Rattle.privilege.specs.declared.transfer.DataWritten.{DataWritten}
 use Rattle.script.specs.declared.Event.{Event}
-use Rattle.machine.specs.Access.{Result, isRead, presented, readOutcome, writeOutcome, readMoved, writeMoved, moved, permitted, accessOf}
+use Rattle.machine.specs.Access.{isRead, presented, readOutcome, writeOutcome, writeMoved, moved, permitted, accessOf}
 use Rattle.machine.specs.Access.Laws.{read-moved}
-use Rattle.machine.specs.Event.{Step, line, lineOf, fromAccess}
+use Rattle.machine.specs.Event.{line, lineOf, fromAccess}
 use Rattle.machine.specs.InPlace.{stepped, accessKind, storedBy, left, banksOf, Asks, MovesTo, Moves, MovesApart, Accesses, InPageAccesses}
 use Rattle.machine.specs.Parts.{Parts, arrays, machineOf, withControl, withI, withD}
 use Rattle.machine.specs.State.{withSys}

@@ -1,6 +1,6 @@
 -- A machine taken apart and put together again. Assumes nothing.
 use Prim.Native.Nat.{ℕ}
-use mathlib.Core.Path.{_≡_, refl, sym, ap, _∙_}
+use mathlib.Core.Path.{_≡_, ap, _∙_}
 use mathlib.Core.List.{List}
 use Rattle.cache.specs.Lent.{lentBank, lentCache}
 use Rattle.cache.specs.declared.Bank.{Bank}
@@ -16,7 +16,7 @@ use Rattle.privilege.specs.Lent.{stateOf}
 use Rattle.privilege.specs.declared.region.Region.{Region}
 use Rattle.privilege.specs.declared.state.SystemState.{SystemState}
 use Rattle.privilege.specs.declared.lent.Status.{Status}
-use Rattle.machine.specs.Parts.{Parts, statusAt, controlAt, countsAt, irqcAt, partsAt, withStatus, withControl, withI, withD, withIrqc, rangeOf, arrays, machineOf, Unpacked}
+use Rattle.machine.specs.Parts.{Parts, statusAt, controlAt, countsAt, irqcAt, partsAt, withStatus, withControl, withI, withD, withIrqc, arrays, machineOf, Unpacked}
 use Rattle.machine.specs.State.{withSys}
 use Rattle.machine.specs.declared.state.Machine.{Machine}
 

@@ -1,6 +1,6 @@
 -- The parts and their words. Assumes nothing.
 use Prim.Native.Nat.{ℕ, _%_, _^_, _<_}
-use mathlib.Core.Path.{_≡_, refl, _∙_}
+use mathlib.Core.Path.{_≡_, refl}
 use mathlib.Core.Bool.{Bool, true, false}
 use mathlib.Core.List.{List, [], _∷_}
 use native.Mathlib.Omega.{arith}
@@ -14,7 +14,7 @@ use Rattle.privilege.specs.State.{modeOf, isShort}
 use Rattle.privilege.specs.declared.lent.Status.{Status}
 use Rattle.privilege.specs.declared.state.InstructionMode.{InstructionMode}
 use Rattle.privilege.specs.declared.state.InstructionMode.the-variants.{Normal, Short}
-use Rattle.machine.specs.Parts.{Parts, statusAt, controlAt, countsAt, irqcAt, partsAt, withStatus, withControl, withI, withD, withIrqc}
+use Rattle.machine.specs.Parts.{statusAt, controlAt, countsAt, irqcAt, partsAt, withStatus, withControl, withI, withD, withIrqc}
 
 -- a truth value comes back from its word
 truth-back : (b : Bool) → eqb (boolByte b % 2) 1 ≡ b

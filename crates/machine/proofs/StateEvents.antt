@@ -1,15 +1,13 @@
 -- Kinds 3 to 15 where the machine's words and arrays stand. Assumes nothing.
 use Prim.Native.Nat.{ℕ, _%_, _<_, _≤_}
 use mathlib.Core.Path.{_≡_, refl, sym, ap, _∙_}
-use mathlib.Core.Bool.{Bool, true, false, not}
+use mathlib.Core.Bool.{not}
 use mathlib.Core.List.{List}
 use lib.Dec.{eqb}
 use lib.ListN.{set}
 use borrow.Author.Tests.{lt-ltb, le-ltb}
-use Rattle.cache.specs.Cache.{saturated, externalWritten, regRead, regWritten}
-use Rattle.cache.specs.Lent.{lentBank, lentCache, sweptTags, lent-swept}
+use Rattle.cache.specs.Lent.{lentBank, lent-swept}
 use Rattle.cache.specs.RegistersLent.{RegReads, RegWrites, Resets}
-use Rattle.cache.specs.declared.L1Cache.{L1Cache}
 use Rattle.cache.specs.declared.lent.Counts.{Counts}
 use Rattle.cache.specs.declared.lent.Range.{Range}
 use Rattle.cache.specs.declared.registers_lent.Controlled.{Controlled}
@@ -23,13 +21,12 @@ use Rattle.listing.specs.declared.Line.{Line}
 use Rattle.mmu.specs.Words.{tlbOf, Sixteen, vmOf}
 use Rattle.mmu.specs.declared.words.Control.{Control}
 use Rattle.privilege.specs.Lent.{stateOf, Traps, Returns}
-use Rattle.privilege.specs.Registers.{srRead, srWritten}
+use Rattle.privilege.specs.Registers.{srWritten}
 use Rattle.privilege.specs.Registers.Laws.{write-refused}
 use Rattle.privilege.specs.RegistersLent.{SrReads, SrWrites, leftBy}
 use Rattle.privilege.specs.State.{modeOf, newState}
 use Rattle.privilege.specs.declared.lent.Status.{Status}
 use Rattle.privilege.specs.declared.region.Region.{Region}
-use Rattle.privilege.specs.declared.registers.SrAnswer.{SrAnswer}
 use Rattle.privilege.specs.declared.registers.SrAnswer.the-variants as answer
 use Rattle.privilege.specs.declared.registers.SrRead.{SrRead}
 use Rattle.privilege.specs.declared.registers.SrRead.the-variants as read
@@ -39,12 +36,11 @@ use Rattle.privilege.specs.declared.state.InstructionMode.{InstructionMode}
 use Rattle.privilege.specs.declared.state.SystemState.{SystemState}
 use Rattle.script.specs.declared.Event.{Event}
 use Rattle.machine.specs.Event.{line, shown, shows, refuses, trapEvent, returnEvent, readEvent, writeEvent, registerEvent, stateEvent}
-use Rattle.machine.specs.InPlace.{stepped, showing, refusing, banksOf, Shows, RegisterShows, Reads, Writes, Sweeps, CacheWrites, Resetting, States}
+use Rattle.machine.specs.InPlace.{stepped, showing, refusing, Shows, RegisterShows, Reads, Writes, Sweeps, CacheWrites, Resetting, States}
 use Rattle.machine.specs.Parts.{Parts, Arrays, arrays, machineOf, withStatus, withControl, withI, withD, withIrqc}
-use Rattle.machine.specs.State.{withCache, withReg, resetOf}
-use Rattle.machine.specs.declared.event.Stepped.{Stepped}
+use Rattle.machine.specs.State.{withReg, resetOf}
 use Rattle.machine.specs.declared.state.Machine.{Machine}
-use Rattle.machine.proofs.Events.{kind-source, kind-clear, kind-enable, kind-external, kind-register-read, kind-register-write, kind-reset, kind-output, kind-none}
+use Rattle.machine.proofs.Events.{kind-source, kind-clear, kind-enable, kind-none}
 
 pub refusing-is : (x : Refusal) (n : ℕ) → n ≡ refusalNumber x → line 78 n 0 0 ≡ refusing x
 refusing-is x n h = rw h
