@@ -1,8 +1,8 @@
 -- The ways through the check of an access on lent words: of one that stays in its page, and of any. Assumes nothing.
-use Prim.Native.Nat.{ℕ, zero, suc, _+_, _%_, _/_, _^_, _≤_, _<_}
+use Prim.Native.Nat.{ℕ, zero, suc, _/_, _<_}
 use mathlib.Core.Path.{_≡_, refl, sym, ap, _∙_}
 use mathlib.Core.Bool.{Bool, true, false, cond}
-use mathlib.Core.List.{List, [], _∷_}
+use mathlib.Core.List.{List}
 use native.Mathlib.Omega.{arith}
 use lib.ListN.{length}
 use Rattle.common.specs.Cases.{absurd-eq}
@@ -25,12 +25,12 @@ use Rattle.mmu.specs.declared.tlb.TlbEntry.{TlbEntry}
 use Rattle.mmu.specs.declared.vm.Vm.{Vm}
 use Rattle.mmu.specs.declared.words.Control.{Control}
 use Rattle.mmu.specs.declared.words.Found.{Found}
-use Rattle.privilege.specs.Access.{fetchSize, dataSize, legalSize, mapGood, translatingOf, allowsOf, permissionOf, fromPages, checkLegal, checkAccess}
+use Rattle.privilege.specs.Access.{fetchSize, dataSize, legalSize, mapGood, translatingOf, permissionOf, checkLegal, checkAccess}
 use Rattle.privilege.specs.Access.Laws as laws
 use Rattle.privilege.specs.Addresses.{stepped}
 use Rattle.privilege.specs.Lent.{stateOf, InPage, answered, regionAnswer, Checks, ChecksLegal, Apart, ApartLegal, pagesChecked, pagesAnswer, ApartPages}
 use Rattle.privilege.specs.Region.{allAllowed}
-use Rattle.privilege.specs.Transfer.{slotFrame, frameOf, joinedTo, physicalOf}
+use Rattle.privilege.specs.Transfer.{slotFrame, frameOf, joinedTo}
 use Rattle.privilege.specs.Transfer.Laws.{physical-off, physical-on}
 use Rattle.privilege.specs.declared.check.AccessChecked.{AccessChecked}
 use Rattle.privilege.specs.declared.check.Permission.{Permission}
