@@ -9,7 +9,7 @@ GOLDEN = Path(__file__).with_name("golden")
 
 
 def replayed():
-    """Each script of the set with its output."""
+    """Each script of the set with its whole output."""
     return list(zip(scripts((REPLAY / "stdin").read_bytes()), outputs((REPLAY / "stdout").read_text())))
 
 
@@ -23,9 +23,13 @@ def scripts(content):
 
 
 def outputs(text):
-    lines = []
+    """The set has the state lines that changed; the others are put back behind each event's."""
+    lines, state = [], {}
     for line in text.splitlines(keepends=True):
-        lines.append(line)
+        if line.startswith("S "):
+            state[line.split()[1]] = line
+            continue
+        lines += [*state.values(), line]
         if line.startswith(("end ", "refused ")):
             yield "".join(lines)
-            lines = []
+            lines, state = [], {}

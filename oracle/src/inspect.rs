@@ -1,17 +1,36 @@
-//! The listing with the whole state after each event, for comparing what no listing shows.
+//! The listing with the state after each event, whole or what changed, for comparing what no listing shows.
 
 use crate::digest::Digest;
 use crate::listing;
 use crate::machine::Machine;
 use crate::state::{Cache, Controller, Privilege, Vm, REGIONS};
 
+/// The state in seven lines.
+type Lines = [String; 7];
+
 /// Runs a script and prints it with its states.
 pub fn inspect(script: &[u8]) -> String {
-    listing::run(script, state)
+    listing::run(script, |machine| lines(machine).concat())
 }
 
-/// The state in seven lines.
-pub fn state(machine: &Machine) -> String {
+/// Runs a script and prints it, with all lines of the state after the first event and after the others those
+/// that are not as before.
+pub fn changes(script: &[u8]) -> String {
+    let mut before = Lines::default();
+    listing::run(script, |machine| {
+        let now = lines(machine);
+        let text = new_lines(&now, &before);
+        before = now;
+        text
+    })
+}
+
+fn new_lines(now: &Lines, before: &Lines) -> String {
+    let new = now.iter().zip(before).filter(|(line, old)| line != old);
+    new.map(|(line, _)| line.as_str()).collect()
+}
+
+fn lines(machine: &Machine) -> Lines {
     let state = machine.state();
     [
         system(machine.sys.status(), &state.sys),
@@ -22,7 +41,6 @@ pub fn state(machine: &Machine) -> String {
         words("reg", &state.sys.reg),
         words("mem", &[Digest::new().bytes(machine.bus.bytes()).value()]),
     ]
-    .concat()
 }
 
 fn words(name: &str, words: &[u32]) -> String {
@@ -92,11 +110,29 @@ fn cache(cache: &Cache) -> String {
         d.digest()
     )
 }
+
 #[cfg(test)]
 mod tests {
-    use super::inspect;
+    use std::collections::HashMap;
+
+    use super::{changes, inspect};
     use crate::event::Event;
+    use crate::generate;
     use crate::script::Script;
+    use crate::store::MACHINE_SEED;
+
+    /// A line is left out exactly where the last one of its name says the same, so nothing is lost.
+    #[test]
+    fn changes_are_the_new_lines() {
+        for script in generate::scripts::stored(MACHINE_SEED) {
+            let whole = inspect(&script);
+            let mut last = HashMap::new();
+            let kept = whole.split_inclusive('\n').filter(|line| {
+                !line.starts_with("S ") || last.insert(&line[..5], *line) != Some(*line)
+            });
+            assert_eq!(changes(&script), kept.collect::<String>());
+        }
+    }
 
     #[test]
     fn the_other_bank_in_both_modes() {

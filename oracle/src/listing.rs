@@ -3,16 +3,14 @@
 use crate::machine::{Answer, Machine, Outcome};
 use crate::script::Script;
 
-/// What is printed behind an event's line: nothing in a listing, the state in an inspection.
-pub type After = fn(&Machine) -> String;
-
 /// Runs a script and prints it.
 pub fn listing(script: &[u8]) -> String {
     run(script, |_| String::new())
 }
 
-/// The lines of a whole run, or of its refusal.
-pub fn run(script: &[u8], after: After) -> String {
+/// The lines of a whole run, or of its refusal. `after` says what stands behind an event's line: nothing in
+/// a listing, the state in an inspection.
+pub fn run(script: &[u8], mut after: impl FnMut(&Machine) -> String) -> String {
     let script = match Script::read(script) {
         Ok(script) => script,
         Err(number) => return refused(number),

@@ -10,7 +10,7 @@ use std::path::{Path, PathBuf};
 use crate::cache;
 use crate::event;
 use crate::generate;
-use crate::inspect::inspect;
+use crate::inspect;
 use crate::irqc;
 use crate::mmu;
 use crate::privilege;
@@ -106,7 +106,7 @@ pub const MACHINE_SEED: u64 = 0x3AC4_0558;
 fn machine_replay() -> Answers {
     let scripts = generate::scripts::stored(MACHINE_SEED);
     let whole = scripts.iter().flat_map(|script| with_length(script));
-    let listings = scripts.iter().map(|script| inspect(script));
+    let listings = scripts.iter().map(|script| inspect::changes(script));
     Answers {
         stdin: whole.chain(CUT_OFF).collect(),
         stdout: listings.chain([SAID_OF_IT.to_string()]).collect(),

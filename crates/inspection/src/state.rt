@@ -19,6 +19,10 @@ use privilege::state::SystemState;
 use text::put_byte;
 use text::put_bytes;
 
+pub const LINES: u32 = 7;
+// More bytes than the seven lines ever have: 930, with a victim of two digits.
+pub const ROOM: usize = 1024;
+
 // STATUS, EPC and CAUSE.
 fn put_trap(out: &mut [u8], at: usize, sys: SystemState) -> usize {
     let status = put_word(out, at, sys.status());

@@ -1,4 +1,4 @@
-// Replays scripts from standard input and writes the listing of each, with the whole state after each event's line.
+// Replays scripts from standard input and writes the listing of each, with the state lines that changed after each event's line.
 //
 // The scripts stand in a row, each behind its length in four bytes. One that the input's end cuts off is not run, and a line says so.
 use common::be_word;
@@ -20,7 +20,7 @@ fn show_all(input: &[u8]) {
             show_cut();
             return;
         }
-        inspection::show(&input[first..first + length]);
+        inspection::show_changes(&input[first..first + length]);
         at = first + length;
     }
 }

@@ -1,4 +1,4 @@
--- `inspection::show_good` is safe and ends: the loop counts up to the number of events and the memory keeps its length. Assumes nothing.
+-- `inspection::show_good` is safe and ends: the loop counts up to the number of events and the memory and the text of the state before keep their lengths. Assumes nothing.
 use Prim.Native.Nat.{_-_}
 use mathlib.Core.Path.{_≡_}
 use lib.ListN.{length}
@@ -7,10 +7,10 @@ use Rattle.inspection.proofs.show_good.Statement.{statement}
 use Rattle.inspection.proofs.show_good.Tie as tie
 
 abbrev Inv-loop : tie.InvT-loop
-Inv-loop script h mem₀ machine₀ k₀ mem machine k = length mem ≡ length mem₀
+Inv-loop script h mem₀ only-changes machine₀ before₀ k₀ mem machine before k = (length mem ≡ length mem₀) × (length before ≡ 1024)
 
 abbrev μ-loop : tie.MeasureT-loop
-μ-loop script h mem₀ machine₀ k₀ mem machine k = h .events - k
+μ-loop script h mem₀ only-changes machine₀ before₀ k₀ mem machine before k = h .events - k
 
 cast-copy-image : tie.Need-cast-copy-image Inv-loop μ-loop
 cast-copy-image c = search needs
@@ -32,6 +32,9 @@ event-at-requires c κs = search needs
 
 step-requires : tie.Need-step-requires Inv-loop μ-loop
 step-requires c κs = search needs
+
+slice-aggregate-show-event : tie.Need-slice-aggregate-show-event Inv-loop μ-loop
+slice-aggregate-show-event c = search needs
 
 show-event-requires : tie.Need-show-event-requires Inv-loop μ-loop
 show-event-requires c κs = search needs
@@ -67,6 +70,7 @@ show-good-spec =
     event-place-requires
     event-at-requires
     step-requires
+    slice-aggregate-show-event
     show-event-requires
     add-k
     loop-less

@@ -62,20 +62,20 @@ show-cut-requires-2 c κs = search needs
 returns-2 : tie.Need-returns-2 Inv-loop μ-loop
 returns-2 c = search needs
 
-add-show : tie.Need-add-show Inv-loop μ-loop
-add-show c = search needs
+add-show-changes : tie.Need-add-show-changes Inv-loop μ-loop
+add-show-changes c = search needs
 
-sub-show : tie.Need-sub-show Inv-loop μ-loop
-sub-show c = search needs
+sub-show-changes : tie.Need-sub-show-changes Inv-loop μ-loop
+sub-show-changes c = search needs
 
-part-show-start : tie.Need-part-show-start Inv-loop μ-loop
-part-show-start c = search needs
+part-show-changes-start : tie.Need-part-show-changes-start Inv-loop μ-loop
+part-show-changes-start c = search needs
 
-part-show-end : tie.Need-part-show-end Inv-loop μ-loop
-part-show-end c = search needs
+part-show-changes-end : tie.Need-part-show-changes-end Inv-loop μ-loop
+part-show-changes-end c = search needs
 
-show-requires : tie.Need-show-requires Inv-loop μ-loop
-show-requires c κs = search needs
+show-changes-requires : tie.Need-show-changes-requires Inv-loop μ-loop
+show-changes-requires c κs = search needs
 
 add-at : tie.Need-add-at Inv-loop μ-loop
 add-at c = search needs
@@ -112,11 +112,11 @@ show-all-spec =
     sub-if2
     show-cut-requires-2
     returns-2
-    add-show
-    sub-show
-    part-show-start
-    part-show-end
-    show-requires
+    add-show-changes
+    sub-show-changes
+    part-show-changes-start
+    part-show-changes-end
+    show-changes-requires
     add-at
     loop-less
     loop-again

@@ -1,9 +1,9 @@
--- `inspection::show` is safe: a good script's image fits the memory. Assumes nothing.
+-- `inspection::show_script` is safe: a good script's image fits the memory. Assumes nothing.
 use mathlib.Core.Path.{sym}
 use Rattle.script.specs.Header.Laws.{image-fits, memory-length}
 use borrow.Author.Needs.{needs}
-use Rattle.inspection.proofs.show.Statement.{statement}
-use Rattle.inspection.proofs.show.Tie as tie
+use Rattle.inspection.proofs.show_script.Statement.{statement}
+use Rattle.inspection.proofs.show_script.Tie as tie
 
 header-of-requires : tie.Need-header-of-requires
 header-of-requires c κs = search needs
@@ -38,8 +38,8 @@ returns c = search needs
 returns-2 : tie.Need-returns-2
 returns-2 c = search needs
 
-pub show-spec : {M : Type 1} → statement M
-show-spec =
+pub show-script-spec : {M : Type 1} → statement M
+show-script-spec =
     tie.close
     (tie.spec
     header-of-requires
