@@ -18,8 +18,9 @@ status 1. A target that is not met is shown and is no failure.
 Rows:
   loads stores fetches    aligned words of twelve resident pages, user mode
   misses                  loads that miss the TLB each time
+  crossings               loads, stores and fetches over the ends of the same twelve pages
   regions supervisor      loads checked by regions, and by nothing
-  controller traps        crossings on all lines; traps and returns
+  controller traps        sources that rise, are cleared and fall; traps and returns
   mix                     the generator's scripts, one after the other
   load-call store-call fetch-call    the first three by one by-value call an event
   floor                   address arithmetic and the data load alone

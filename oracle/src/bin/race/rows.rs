@@ -9,7 +9,7 @@ use oracle::script::PAGE;
 
 use crate::mix::mix;
 use crate::sides::{place, port, port_by_value, Side};
-use crate::work::{event, regions, scene, translated, Work, DATA, MAPPED, VIRTUAL};
+use crate::work::{event, regions, scene, translated, Work, DATA, FRAMES, MAPPED, VIRTUAL};
 
 pub struct Row {
     pub name: &'static str,
@@ -48,11 +48,12 @@ const fn call(name: &'static str, work: fn(u32) -> Vec<Work>) -> Row {
     }
 }
 
-pub const ROWS: [Row; 12] = [
+pub const ROWS: [Row; 13] = [
     row("loads", 0.35, 1, loads),
     row("stores", 0.5, 1, stores),
     row("fetches", 0.5, 1, fetches),
     row("misses", 1.0, 5, misses),
+    row("crossings", 1.0, 5, crossings),
     row("regions", 1.0, 1, region_loads),
     row("supervisor", 1.0, 1, supervisor),
     row("controller", 1.0, 1, controller),
@@ -96,6 +97,18 @@ fn misses(count: u32) -> Vec<Work> {
     })
 }
 
+/// Over the ends between the twelve pages, eighteen accesses at one and then at the next: each kind, with four
+/// bytes and with two, of which one, two or three lie before the end. Slots are free for all twelve, so no page
+/// takes another's.
+fn crossings(count: u32) -> Vec<Work> {
+    over_scene(translated(), count, |i| {
+        let kind = [KIND_LOAD, KIND_STORE, KIND_FETCH][i as usize % 3];
+        let (size, before) = [(4, 1), (2, 1), (4, 2), (2, 1), (4, 3), (2, 1)][i as usize / 3 % 6];
+        let end = VIRTUAL + (1 + i / 18 % (FRAMES - 1)) * PAGE;
+        event(kind, size, 0, end - before, i)
+    })
+}
+
 fn region_loads(count: u32) -> Vec<Work> {
     over_scene(regions(), count, |i| {
         event(KIND_LOAD, 4, 0, DATA + place(i), 0)
@@ -108,7 +121,7 @@ fn supervisor(count: u32) -> Vec<Work> {
     })
 }
 
-/// Crossings on all sixteen lines: a source rises, the output is asked, the source is cleared and falls.
+/// All sixteen lines in turn: a source rises, the output is asked, the source is cleared and falls.
 fn controller(count: u32) -> Vec<Work> {
     let enable = vec![event(KIND_ENABLE, 0, u16::MAX, 0, 0)];
     over_scene(enable, count, |i| {
@@ -132,8 +145,11 @@ fn traps(count: u32) -> Vec<Work> {
 
 #[cfg(test)]
 mod tests {
-    use super::{Row, ROWS};
+    use super::{crossings, Row, ROWS};
     use crate::sides::{published, Totals};
+    use crate::work::translated;
+    use oracle::event::{Event, LENGTH};
+    use oracle::script::PAGE;
 
     const COUNT: u32 = 10_000;
 
@@ -146,7 +162,7 @@ mod tests {
     /// Nothing is refused or denied, so each row measures what it is named after.
     #[test]
     fn accesses_answer_values() {
-        for name in ["loads", "stores", "fetches", "misses", "traps"] {
+        for name in ["loads", "stores", "fetches", "misses", "crossings", "traps"] {
             let (events, totals) = totals(name);
             assert_eq!(totals.values, u64::from(events), "{name}");
         }
@@ -154,8 +170,21 @@ mod tests {
 
     /// Twelve pages are walked for once. The last loads find twelve of the seventeen pages resident.
     #[test]
-    fn loads_are_resident() {
-        assert_eq!(totals("loads").1.reads, 2 * (12 + 5));
+    fn pages_are_resident() {
+        for name in ["loads", "stores", "fetches", "crossings"] {
+            assert_eq!(totals(name).1.reads, 2 * (12 + 5), "{name}");
+        }
+    }
+
+    #[test]
+    fn crossings_lie_over_two_pages() {
+        let works = crossings(COUNT);
+        let (rows, _) = works[0].events.as_chunks::<LENGTH>();
+        let own = rows[translated().len()..][..COUNT as usize].iter();
+        for Event { size, a, .. } in own.map(Event::decode) {
+            let last = a + u32::from(size) - 1;
+            assert_eq!(last / PAGE, a / PAGE + 1, "{size} bytes at {a:X}");
+        }
     }
 
     /// Ten thousand loads end before page 4, so the last ones, from page 0 on, find four pages resident.
