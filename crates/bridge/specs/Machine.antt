@@ -4,12 +4,14 @@
 --   machineNumbers M == a machine, ready to cross
 --   eventOf ..       == the event with these fields
 --   stepNumbers s    == what an event's step leaves of the machine, and its line
+--   lineNumbers l    == a line, ready to cross
 use Prim.Native.Nat.{ℕ}
 use Rattle.listing.specs.declared.Line.{Line}
 use Rattle.script.specs.declared.Event.{Event}
 use Rattle.machine.specs.declared.state.Machine.{Machine}
 use Rattle.machine.specs.declared.event.Stepped.{Stepped}
 use Rattle.bridge.specs.Privilege.{stateOf, stateNumbers}
+use Rattle.bridge.specs.declared.lent_calls.MachineLine.{MachineLine}
 use Rattle.bridge.specs.declared.machine_calls.MachineState.{MachineState}
 use Rattle.bridge.specs.declared.machine_calls.MachineStepped.{MachineStepped}
 
@@ -31,3 +33,6 @@ stepNumbers s =
       stall = s .line .stall;
       reads = s .line .reads;
     }
+
+abbrev pub lineNumbers : Line → MachineLine
+lineNumbers l = record { letter = l .letter; digits = l .digits; stall = l .stall; reads = l .reads }

@@ -2,6 +2,7 @@
 pub mod cache_calls;
 pub mod exception_calls;
 pub mod irqc_calls;
+pub mod lent_calls;
 pub mod machine_calls;
 pub mod mmu_calls;
 pub mod privilege_calls;

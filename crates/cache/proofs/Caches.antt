@@ -1,7 +1,7 @@
 -- What each way through the cache's functions leaves is what the definition says. Assumes nothing.
-use Prim.Native.Nat.{ℕ, _+_, _*_, _^_, _<_}
+use Prim.Native.Nat.{ℕ, _*_, _^_, _<_}
 use mathlib.Core.Path.{_≡_, refl, sym, ap₂, _∙_}
-use mathlib.Core.Bool.{Bool, true, false, cond, not}
+use mathlib.Core.Bool.{Bool, true, false, not, and-false}
 use native.Mathlib.Omega.{arith}
 use borrow.Author.Tests.{not-true, not-false, ne-eqb}
 use lib.Dec.{eqb}
@@ -10,7 +10,7 @@ use mir.Syntax.{w32}
 use mir.Val.{Fits, boolByte}
 use Rattle.common.specs.Bits.Laws.{flag-is}
 use Rattle.cache.specs.Bank.{accessed, lineDropped, controlled}
-use Rattle.cache.specs.Cache.{withBanks, cacheableAt, bankAfter, costOf, stallAfter, fetched, loaded, stored, ctrlWord, regWritten}
+use Rattle.cache.specs.Cache.{withBanks, cacheableAt, bankAfter, costOf, stallAfter, fetched, loaded, stored, enableBits, regWritten}
 use Rattle.cache.specs.declared.Bank.{Bank}
 use Rattle.cache.specs.declared.BankAccess.{BankAccess}
 use Rattle.cache.specs.declared.L1Cache.{L1Cache}
@@ -62,6 +62,16 @@ pub ruleset loads = (load-kept, load-served, served-off, served-out, served-in)
 
 pub ruleset fetches = (fetch-kept, fetch-served, served-off, served-out, served-in)
 
+-- an access outside the range costs nothing and changes nothing
+module _ (c : L1Cache) (pa : ℕ) (e : cacheableAt c pa ≡ false) where
+  pub load-outside : loaded c pa ≡ record { cache = c; stall = 0 }
+  unfolding loaded
+  load-outside = simp (e, and-false)
+
+  pub fetch-outside : fetched c pa ≡ record { cache = c; stall = 0 }
+  unfolding fetched
+  fetch-outside = simp (e, and-false)
+
 -- ---- a store: the address is cacheable, or not
 
 pub store-in : (c : L1Cache) (pa : ℕ) (r : Bool) (b : Bank) → r ≡ cacheableAt c pa → r ≡ true → b ≡ lineDropped (c .i) pa
@@ -82,15 +92,11 @@ pub flag-fits : (b : Bool) (k : ℕ) → k < 2 ^ 32 → Fits w32 (boolByte b * k
 flag-fits true k h = record { fits = omega arith }
 flag-fits false k h = record { fits = omega arith }
 
-flags : (i d : Bool) → bitOr (boolByte i * 1) (boolByte d * 2) ≡ cond i 1 0 + cond d 2 0
+pub flags : (i d : Bool) → bitOr (boolByte i * 1) (boolByte d * 2) ≡ enableBits i d
 flags true true = refl
 flags true false = refl
 flags false true = refl
 flags false false = refl
-
-pub ctrl-is : (c : L1Cache) → bitOr (boolByte (c .i .enabled) * 1) (boolByte (c .d .enabled) * 2) ≡ ctrlWord c
-unfolding ctrlWord
-ctrl-is c = flags (c .i .enabled) (c .d .enabled)
 
 -- a bit of the written word, as the code tests it
 abbrev pub masked : ℕ → ℕ → Bool

@@ -1,8 +1,8 @@
 pub mod Banks
-pub mod Sweep
+pub mod Sweeps
 pub mod Caches
-pub mod InPlace
-pub mod Registers
+pub mod FlatBanks
+pub mod FlatCaches
 pub mod Lanes
 pub mod Histories
 pub mod Sentences

@@ -19,7 +19,7 @@ use Rattle.cache.specs.declared.Bank.{Bank}
 use Rattle.cache.specs.declared.BankAccess.{BankAccess}
 use Rattle.cache.specs.declared.L1Cache.{L1Cache}
 use Rattle.cache.proofs.Banks.{enable-kept}
-use Rattle.cache.proofs.Sweep.{set-is, line-dropped, others-kept}
+use Rattle.cache.proofs.Sweeps.{set-is, line-dropped, others-kept}
 
 -- ---- an access
 

@@ -11,7 +11,7 @@
 --   enabledTo b on            == the enable bit is set; its change empties the bank: `set_enabled`
 --   statsCleared b            == no counts: `clear_stats`
 --   controlled b on drop clr  == the enable bit, then the two strobes: a bank's part of `write_reg`
---   swept b k stop            == the indexes of lines k to stop - 1 are dropped: a bank's part of `external_write`
+--   swept b k stop, sweptTags == the indexes of lines k to stop - 1 are dropped: a bank's part of `external_write`
 --   withTags, hitCounted, missCounted, allocated, dropLines == the single changes that these are made of
 --
 -- Choices that a reader may question. The two banks have the same size, so the Rust's `size_shift` is left out. A sweep
@@ -95,5 +95,8 @@ unfoldable pub dropLines : ℕ → ℕ → List ℕ → List ℕ
 dropLines zero k ts = ts
 dropLines (suc n) k ts = dropLines n (k + 1) (set ts (k % 256) noTag)
 
+abbrev pub sweptTags : List ℕ → ℕ → ℕ → List ℕ
+sweptTags ts k stop = dropLines (stop - k) k ts
+
 unfoldable pub swept : Bank → ℕ → ℕ → Bank
-swept b k stop = withTags b (dropLines (stop - k) k (b .tags))
+swept b k stop = withTags b (sweptTags (b .tags) k stop)

@@ -4,7 +4,7 @@
 --   withBanks c i d             == the same range and penalty with other banks
 --   saturated a b               == a + b, at most 0xFFFFFFFF: `saturating_add`
 --   newCache start size         == two new banks over a range: `new`
---   cacheableAt c pa            == an address in [start, end): `cacheable`
+--   rangeHas, cacheableAt c pa  == an address in [start, end): `cacheable`
 --   resetOf c, bothCleared c    == two new banks; no counts in either bank: `reset`, `clear_stats`
 --   counts c b pa               == an access to bank b reaches it: enabled, and the address cacheable
 --   bankAfter c b pa            == bank b after an access
@@ -12,8 +12,8 @@
 --   fetched c pa, loaded c pa   == the instruction bank's access, the data bank's: `fetch`, `load`
 --   stored c pa                 == the matching instruction line goes: `store`
 --   externalWritten c pa len    == another master wrote [pa, pa + len): `external_write`
---   ctrlWord c                  == the two enable bits: `ctrl`
---   regRead, regWritten         == a register: `read_reg`, `write_reg`
+--   enableBits, ctrlWord c      == the two enable bits: `ctrl`
+--   registerAt, regRead, regWritten == a register: `read_reg`, `write_reg`
 --   wordOf, laneShift addr      == the register of a byte, and how far up the byte stands in it: `lane`
 --   laneOf, merged, withByte    == that byte of a word, and the word with it replaced
 --   byteRead, byteWritten       == one byte of a register, high byte first: `read`, `write` of `CacheRegisterDevice`
@@ -28,7 +28,6 @@ use Rattle.cache.specs.Bank.{newBank, accessed, lineDropped, statsCleare
 use Rattle.cache.specs.declared.Bank.{Bank}
 use Rattle.cache.specs.declared.L1Cache.{L1Cache}
 use Rattle.cache.specs.declared.CacheAccess.{CacheAccess}
-pub mod Laws
 
 pub data Side : Type 0 where
   iBank : Side
@@ -50,8 +49,11 @@ newCache start size =
     record { i = newBank; d = newBank; «ram_start» = start; «ram_end» = saturated start size; «miss_penalty» = 0 }
 
 -- "Cacheable is [start, end)"
+abbrev pub rangeHas : ℕ → ℕ → ℕ → Bool
+rangeHas start end pa = leb start pa && ltb pa end
+
 unfoldable pub cacheableAt : L1Cache → ℕ → Bool
-cacheableAt c pa = leb (c .«ram_start») pa && ltb pa (c .«ram_end»)
+cacheableAt c pa = rangeHas (c .«ram_start») (c .«ram_end») pa
 
 -- "Reset empties and enables both, clears counts, keeps the penalty"
 abbrev pub resetOf : L1Cache → L1Cache
@@ -98,17 +100,23 @@ externalWritten c pa len =
 
 -- ---- the registers
 
+abbrev pub enableBits : Bool → Bool → ℕ
+enableBits i d = cond i 1 0 + cond d 2 0
+
 unfoldable pub ctrlWord : L1Cache → ℕ
-ctrlWord c = cond (c .i .enabled) 1 0 + cond (c .d .enabled) 2 0
+ctrlWord c = enableBits (c .i .enabled) (c .d .enabled)
+
+abbrev pub registerAt : ℕ → ℕ → ℕ → ℕ → ℕ → ℕ → ℕ
+registerAt offset ctrl i-hits i-misses d-hits d-misses =
+    cond (eqb offset 0x00) 0x000D_0D05
+    (cond (eqb offset 0x04) ctrl
+    (cond (eqb offset 0x10) i-hits
+    (cond (eqb offset 0x14) i-misses
+    (cond (eqb offset 0x18) d-hits
+    (cond (eqb offset 0x1C) d-misses 0)))))
 
 unfoldable pub regRead : L1Cache → ℕ → ℕ
-regRead c offset =
-    cond (eqb offset 0x00) 0x000D_0D05
-    (cond (eqb offset 0x04) (ctrlWord c)
-    (cond (eqb offset 0x10) (c .i .hits)
-    (cond (eqb offset 0x14) (c .i .misses)
-    (cond (eqb offset 0x18) (c .d .hits)
-    (cond (eqb offset 0x1C) (c .d .misses) 0)))))
+regRead c offset = registerAt offset (ctrlWord c) (c .i .hits) (c .i .misses) (c .d .hits) (c .d .misses)
 
 -- "Only 0x04 is writable: bits 8 and 9 empty I and D, 10 clears the counts"
 unfoldable pub regWritten : L1Cache → ℕ → ℕ → L1Cache

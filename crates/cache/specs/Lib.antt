@@ -3,5 +3,4 @@ pub mod Cache
 pub mod History
 pub mod Meaning
 pub mod Corners
-pub mod Lent
-pub mod RegistersLent
+pub mod Flat

@@ -6,13 +6,14 @@
 // `write_byte`. Both banks have the same size, so a bank's `size_shift` is the constant `SIZE_SHIFT`.
 ghost use mathlib.Core.Path.{_≡_};
 ghost use Rattle.cache.specs.Bank.{lineOf, lineStop, indexOf, tagOf, newBank, accessed, lineDropped, emptied, enabledTo, statsCleared, controlled, swept};
-ghost use Rattle.cache.specs.Cache.{saturated, newCache, cacheableAt, resetOf, bothCleared, costOf, fetched, loaded, stored, externalWritten, ctrlWord, regRead, regWritten, laneShift, merged, byteRead, byteWritten};
+ghost use Rattle.cache.specs.Cache.{saturated, newCache, rangeHas, cacheableAt, resetOf, bothCleared, costOf, fetched, loaded, stored, externalWritten, enableBits, ctrlWord, registerAt, regRead, regWritten, laneShift, merged, byteRead, byteWritten};
 ghost use Rattle.cache.specs.Meaning.{Meaning};
 ghost use Rattle.cache.specs.History.{History};
 ghost use Rattle.cache.specs.Corners.{Corners};
+use crate::sweep::sweep;
 
-pub mod lent;
-pub mod registers_lent;
+pub mod flat;
+mod sweep;
 
 pub const LINE_SHIFT: u32 = 5;
 
@@ -70,6 +71,13 @@ fn tag_of(pa: u32) -> u32
     ensures { λ r. ⌜ r ≡ tagOf pa ⌝ }
 {
     pa >> SIZE_SHIFT
+}
+
+// An address in [start, end).
+fn within(start: u32, end: u32, pa: u32) -> bool
+    ensures { λ r. ⌜ r ≡ rangeHas start end pa ⌝ }
+{
+    pa >= start && pa < end
 }
 
 // `u32::saturating_add`.
@@ -172,19 +180,13 @@ impl Bank {
         b
     }
 
-    // Drops the index of each line from the one that holds `pa` while the line starts below `end`. The hardware's snoop
-    // carries the index only, so a conflicting tag at the same index goes too. After the topmost line the address is 0.
+    // Drops the index of each line from the one that holds `pa` while the line starts below `end`.
     fn invalidate_lines(mut self, pa: u32, end: u32) -> Self
         ensures { λ r. ⌜ r ≡ swept self (lineOf pa) (lineStop end) ⌝ }
     {
-        let mut line = pa & !(LINE_BYTES - 1);
-        while line < end {
-            self.tags[index_of(line)] = INVALID;
-            line = std::num::wrapping_add_u32(line, LINE_BYTES);
-            if line == 0 {
-                break;
-            }
-        }
+        let mut tags = self.tags;
+        sweep(&mut tags, pa, end);
+        self.tags = tags;
         self
     }
 }
@@ -214,6 +216,28 @@ fn stall_of(hit: bool, miss_penalty: u32) -> u32
     if hit { 0 } else { miss_penalty }
 }
 
+// The two enable bits.
+fn ctrl_word(i: bool, d: bool) -> u32
+    ensures { λ r. ⌜ r ≡ enableBits i d ⌝ }
+{
+    (i as u32) * CTRL_I_EN | (d as u32) * CTRL_D_EN
+}
+
+// The register at an offset, given what the registers have.
+fn register(offset: u32, ctrl: u32, i_hits: u32, i_misses: u32, d_hits: u32, d_misses: u32) -> u32
+    ensures { λ r. ⌜ r ≡ registerAt offset ctrl «i_hits» «i_misses» «d_hits» «d_misses» ⌝ }
+{
+    match offset {
+        0x00 => CACHE_INFO,
+        0x04 => ctrl,
+        0x10 => i_hits,
+        0x14 => i_misses,
+        0x18 => d_hits,
+        0x1C => d_misses,
+        _ => 0,
+    }
+}
+
 impl L1Cache {
     pub fn new(ram_start: u32, ram_size: u32) -> Self
         ensures { λ r. ⌜ r ≡ newCache «ram_start» «ram_size» ⌝ }
@@ -230,7 +254,7 @@ impl L1Cache {
     pub fn cacheable(self, pa: u32) -> bool
         ensures { λ r. ⌜ r ≡ cacheableAt self pa ⌝ }
     {
-        pa >= self.ram_start && pa < self.ram_end
+        within(self.ram_start, self.ram_end, pa)
     }
 
     // Both banks empty and enabled, no counts; the range and the penalty stay.
@@ -324,21 +348,20 @@ impl L1Cache {
     pub fn ctrl(self) -> u32
         ensures { λ r. ⌜ r ≡ ctrlWord self ⌝ }
     {
-        (self.i.enabled as u32) * CTRL_I_EN | (self.d.enabled as u32) * CTRL_D_EN
+        ctrl_word(self.i.enabled, self.d.enabled)
     }
 
     pub fn read_reg(self, offset: u32) -> u32
         ensures { λ r. ⌜ r ≡ regRead self offset ⌝ }
     {
-        match offset {
-            0x00 => CACHE_INFO,
-            0x04 => self.ctrl(),
-            0x10 => self.i.hits,
-            0x14 => self.i.misses,
-            0x18 => self.d.hits,
-            0x1C => self.d.misses,
-            _ => 0,
-        }
+        register(
+            offset,
+            self.ctrl(),
+            self.i.hits,
+            self.i.misses,
+            self.d.hits,
+            self.d.misses,
+        )
     }
 
     // Only CACHE_CTRL is writable.

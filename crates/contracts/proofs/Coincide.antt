@@ -1,31 +1,37 @@
 -- Each contract is settled, by its shape (`Shapes.antt`).
 use mathlib.Core.Bool.{true, false, false≢true}
 use mathlib.Core.Path.{refl, sym, ap, _∙_}
-use mathlib.Core.List.{[]}
-use Rattle.cache.specs.Bank.{newBank}
-use Rattle.cache.specs.RegistersLent.{noCounts}
-use Rattle.cache.specs.declared.L1Cache.{L1Cache}
-use Rattle.contracts.proofs.Lent.{noRange, touched, snooped, banks, found-same, flush-open, status-same, trap-same, return-same, checked-same}
+use mathlib.Core.List.{List}
+use Prim.Native.Nat.{ℕ}
+use Rattle.cache.specs.declared.CacheAccess.{CacheAccess}
 use Rattle.contracts.proofs.Shapes.{answer, content, both, text, next}
-use Rattle.mmu.specs.Vm.{newVm}
+use Rattle.contracts.proofs.Words.{same-words, words, beside, memory, two, pair, reads, pages-same, access-same, step-same, run-same, open-words}
+use Rattle.machine.specs.declared.flat.run.Listed.{Listed}
+use Rattle.privilege.specs.declared.registers.SrWritten.{SrWritten}
+use Rattle.privilege.specs.declared.trap.Returned.{Returned}
+use Rattle.privilege.specs.declared.trap.Trapped.{Trapped}
 use Rattle.contracts.specs.Contracts.{Contracts}
 use Rattle.contracts.specs.Common.{Common}
+use Rattle.contracts.specs.Layout.{Layout}
 use Rattle.contracts.specs.Text.{Text}
 use Rattle.contracts.specs.Digest.{Digest}
 use Rattle.contracts.specs.Irqc.{Irqc}
-use Rattle.contracts.specs.Cache.{Cache, CacheLent}
+use Rattle.contracts.specs.Cache.{Cache, CacheFlat}
 use Rattle.contracts.specs.Memory.{Memory}
-use Rattle.contracts.specs.Mmu.{Mmu, MmuLent}
-use Rattle.contracts.specs.Privilege.{Privilege, PrivilegeLent}
+use Rattle.contracts.specs.Mmu.{Mmu, MmuFlat}
+use Rattle.contracts.specs.Privilege.{Privilege, PrivilegeFlat}
 use Rattle.contracts.specs.Tables.{Tables}
 use Rattle.contracts.specs.Script.{Script}
 use Rattle.contracts.specs.Listing.{Listing}
-use Rattle.contracts.specs.Machine.{Machine}
+use Rattle.contracts.specs.Machine.{Machine, MachineFlat}
 use Rattle.contracts.specs.Bridge.{Bridge, BridgeLent}
 use Rattle.contracts.specs.Race.{Race}
 
 common-settled : Common
 common-settled = search answer
+
+layout-settled : Layout
+layout-settled = record { copy = record { coincide = content } }
 
 text-settled : Text
 text-settled = record {
@@ -66,14 +72,17 @@ irqc-settled = record {
 cache-settled : Cache
 cache-settled = search answer
 
-cache-lent-settled : CacheLent
-cache-lent-settled = record {
-  touch = record { coincide = touched };
-  snoop = record { coincide = λ p q. snooped (ap (λ (c : L1Cache). c .i) (p noCounts newBank ∙ sym (q noCounts newBank))) };
-  external-write = record { coincide = content };
-  read-reg-lent = record { coincide = λ p q. answer (p noRange [] []) (q noRange [] []) };
-  write-reg-lent = record { coincide = λ p q. banks (p noRange ∙ sym (q noRange)) };
-  reset-lent = record { coincide = λ p q. banks (p noRange newBank newBank ∙ sym (q noRange newBank newBank)) };
+cache-flat-settled : CacheFlat
+cache-flat-settled = record {
+  load = record { agree = λ p q. words (λ e e′. two (λ (c : CacheAccess). c .cache) (λ (c : CacheAccess). c .stall) e e′) p q };
+  fetch = record { agree = λ p q. words (λ e e′. two (λ (c : CacheAccess). c .cache) (λ (c : CacheAccess). c .stall) e e′) p q };
+  store = record { agree = λ p q. words (λ e e′. (e ∙ sym e′, refl)) p q };
+  external-write = record { agree = λ p q. words (λ e e′. (e ∙ sym e′, refl)) p q };
+  read-reg = record { coincide = reads };
+  write-reg = record { agree = λ p q. words (λ e e′. (e ∙ sym e′, refl)) p q };
+  reset = record { agree = λ p q. words (λ e e′. (e ∙ sym e′, refl)) p q };
+  pack = record { agree = λ p q. words (λ e e′. (e ∙ sym e′, refl)) p q };
+  unpack = record { coincide = reads };
 }
 
 memory-settled : Memory
@@ -91,14 +100,14 @@ memory-settled = record {
 mmu-settled : Mmu
 mmu-settled = search answer
 
-mmu-lent-settled : MmuLent
-mmu-lent-settled = record {
-  words-of = record { agree = λ p q. p .0 ∙ sym (q .0) };
-  put-tlb = record { agree = λ p q. p .0 ∙ sym (q .0) };
-  tlb-of = record { coincide = answer };
-  check-lent = record { agree = λ p q. found-same _ _ _ _ _ _ p q };
-  flush-lent = record { agree = λ p q six. p six .0 ∙ sym (q six .0) };
-  invalidate-lent = record { agree = λ p q ls six. p ls six .0 ∙ sym (q ls six .0) };
+mmu-flat-settled : MmuFlat
+mmu-flat-settled = record {
+  check-pages = record { agree = λ p q. words (pages-same _) p q };
+  frame-of = record { coincide = reads };
+  flush = record { agree = λ p q. words (λ e e′. (e ∙ sym e′, refl)) p q };
+  invalidate = record { agree = λ p q. words (λ e e′. (e ∙ sym e′, refl)) p q };
+  pack = record { agree = λ p q. words (λ e e′. (e ∙ sym e′, refl)) p q };
+  unpack = record { coincide = reads };
 }
 
 privilege-settled : Privilege
@@ -130,22 +139,23 @@ privilege-settled = record {
   swap-bank = record { coincide = answer };
   enter-trap = record { coincide = answer };
   leave-trap = record { coincide = answer };
+  read-rows = record { coincide = answer };
+  write-rows = record { coincide = both };
 }
 
-privilege-lent-settled : PrivilegeLent
-privilege-lent-settled = record {
-  status-of = record { coincide = λ p q. answer (status-same (p ∙ sym q)) refl };
-  state-of = record { coincide = answer };
-  enter-trap = record { coincide = λ p q. next (trap-same (p [] newVm ∙ sym (q [] newVm))) };
-  leave-trap = record { coincide = λ p q. next (return-same (p [] newVm ∙ sym (q [] newVm))) };
-  regions-of = record { coincide = answer };
-  put-regions = record { coincide = λ p q. content (p .0) (q .0) };
-  check-access-lent = record { agree = λ p q six page. checked-same _ _ _ _ _ (p six page) (q six page) };
-  check-apart = record { agree = λ p q six. checked-same _ _ _ _ _ (p six) (q six) };
-  read-sr-lent = record { coincide = λ p q. answer (p []) (q []) };
-  write-sr-lent = record { agree = λ p q six. p six .0 ∙ sym (q six .0) };
-  read-run = record { coincide = answer };
-  write-run = record { coincide = both };
+privilege-flat-settled : PrivilegeFlat
+privilege-flat-settled = record {
+  check-access = record { agree = λ p q. words (λ e e′. (pair (e .1) (e′ .1) (e .2) (e′ .2), e .0 ∙ sym (e′ .0))) p q };
+  enter-trap = record { agree = λ p q. words (λ e e′. (ap (λ (t : Trapped). (t .sys, t .reg)) (e ∙ sym e′), refl)) p q };
+  leave-trap = record { agree = λ p q. words (λ e e′. two (λ (t : Returned). (t .sys, t .reg)) (λ (t : Returned). record { epc = t .epc; mode = t .mode }) e e′) p q };
+  read-sr = record { coincide = reads };
+  write-sr = record { agree = λ p q. words (λ e e′. two (λ (w : SrWritten). (w .sys, w .reg)) (λ (w : SrWritten). w .answer) e e′) p q };
+  physical = record { coincide = reads };
+  set-reg = record { agree = λ p q. words (λ e e′. (pair (e .0) (e′ .0) (e .1) (e′ .1), refl)) p q };
+  reset = record { agree = λ p q. words (λ e e′. (pair (e .0) (e′ .0) (e .1) (e′ .1), refl)) p q };
+  pack = record { agree = λ p q. words (λ e e′. (pair (e .0) (e′ .0) (e .1) (e′ .1), refl)) p q };
+  unpack = record { coincide = reads };
+  unpack-reg = record { coincide = reads };
 }
 
 tables-settled : Tables
@@ -172,6 +182,7 @@ script-settled = record {
 
 listing-settled : Listing
 listing-settled = record {
+  new = record { coincide = answer };
   put-line = record { coincide = text };
   put-end = record { coincide = text };
   put-refused = record { coincide = text };
@@ -181,10 +192,6 @@ machine-settled : Machine
 machine-settled = record {
   new = record { coincide = answer };
   reset = record { coincide = answer };
-  with-sys = record { coincide = answer };
-  with-cache = record { coincide = answer };
-  with-irqc = record { coincide = answer };
-  with-reg = record { coincide = answer };
   load = record { coincide = answer };
   fetch = record { coincide = answer };
   store = record { coincide = λ p q. next (both p q) };
@@ -200,6 +207,19 @@ machine-settled = record {
   list = record { coincide = λ p q. next (text p q) };
 }
 
+machine-flat-settled : MachineFlat
+machine-flat-settled = record {
+  pack = record { agree = λ p q. words (λ e e′. (e ∙ sym e′, refl)) p q };
+  unpack = record { coincide = reads };
+  load = record { agree = λ p q. beside access-same p q };
+  fetch = record { agree = λ p q. beside access-same p q };
+  store = record { agree = λ p q. memory access-same p q };
+  step = record { agree = λ p q. memory step-same p q };
+  run = record {
+    agree = λ p q. same-words (λ (s : Listed × List ℕ × List ℕ). s .0) (λ (s : Listed × List ℕ × List ℕ). (s .1, (tt, (tt, (tt, (tt, (s .2, (tt, tt)))))))) run-same p q;
+  };
+}
+
 bridge-settled : Bridge
 bridge-settled = search answer
 
@@ -207,6 +227,10 @@ bridge-lent-settled : BridgeLent
 bridge-lent-settled = record {
   machine-step = record { coincide = λ p q. next (both p q) };
   machine-list = record { coincide = λ p q. next (text p q) };
+  machine-start = record { agree = λ p q. record { stand = p ∙ sym q; rest = refl } };
+  machine-step-in = record {
+    agree = λ p q. record { stand = p .1 .0 ∙ sym (q .1 .0); rest = λ i. ((p .0 ∙ sym (q .0)) i, ((p .1 .1 ∙ sym (q .1 .1)) i, (tt, (tt, (tt, (tt, (tt, (tt, tt)))))))) };
+  };
 }
 
 race-settled : Race
@@ -215,24 +239,26 @@ race-settled = record { race-run = record { coincide = both } }
 pub all-settled : Contracts
 all-settled = record {
   common = common-settled;
+  layout = layout-settled;
   text = text-settled;
   digest = digest-settled;
   irqc = irqc-settled;
   cache = cache-settled;
-  cache-lent = cache-lent-settled;
+  cache-flat = cache-flat-settled;
   memory = memory-settled;
   mmu = mmu-settled;
-  mmu-lent = mmu-lent-settled;
+  mmu-flat = mmu-flat-settled;
   privilege = privilege-settled;
-  privilege-lent = privilege-lent-settled;
+  privilege-flat = privilege-flat-settled;
   tables = tables-settled;
   script = script-settled;
   listing = listing-settled;
   machine = machine-settled;
+  machine-flat = machine-flat-settled;
   bridge = bridge-settled;
   bridge-lent = bridge-lent-settled;
   race = race-settled;
   loose = λ κs a m settled. false≢true (λ i. settled .coincide {κs = κs} {a = a} {r = false} {r′ = true} {m = m} {m′ = m} tt tt i .0);
   theorems = record { coincide = λ p q. refl };
-  open-words = flush-open;
+  open-words = open-words;
 }

@@ -1,3 +1,3 @@
 pub mod Shapes
-pub mod Lent
+pub mod Words
 pub mod Coincide

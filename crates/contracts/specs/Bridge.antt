@@ -1,5 +1,7 @@
 -- The parts and the machine under C names: two outcomes that a contract of `bridge` admits coincide (`Settled.antt`).
-use Rattle.contracts.specs.Settled.{Settled}
+use Rattle.contracts.specs.Settled.{Settled, SettledAs}
+use Rattle.contracts.specs.Words.{SameState}
+use Rattle.machine.specs.Flat.{machineAt}
 use Rattle.bridge.proofs as bridge
 
 pub record Bridge : Type 0 where
@@ -14,7 +16,6 @@ pub record Bridge : Type 0 where
   pub cache-write-reg : Settled bridge.cache_calls.cache_write_reg.ended bridge.cache_calls.cache_write_reg.Reads.Learnt
   pub cache-read-byte : Settled bridge.cache_calls.cache_read_byte.ended bridge.cache_calls.cache_read_byte.Reads.Learnt
   pub cache-write-byte : Settled bridge.cache_calls.cache_write_byte.ended bridge.cache_calls.cache_write_byte.Reads.Learnt
-  pub cache-loads : Settled bridge.cache_calls.cache_loads.ended bridge.cache_calls.cache_loads.Reads.Learnt
   pub irqc-new : Settled bridge.irqc_calls.irqc_new.ended bridge.irqc_calls.irqc_new.Reads.Learnt
   pub irqc-reset : Settled bridge.irqc_calls.irqc_reset.ended bridge.irqc_calls.irqc_reset.Reads.Learnt
   pub irqc-set-source : Settled bridge.irqc_calls.irqc_set_source.ended bridge.irqc_calls.irqc_set_source.Reads.Learnt
@@ -44,3 +45,5 @@ pub record Bridge : Type 0 where
 pub record BridgeLent : Type 0 where
   pub machine-step : Settled bridge.machine_calls.machine_step.ended bridge.machine_calls.machine_step.Reads.Learnt
   pub machine-list : Settled bridge.machine_calls.machine_list.ended bridge.machine_calls.machine_list.Reads.Learnt
+  pub machine-start : SettledAs bridge.lent_calls.machine_start.ended bridge.lent_calls.machine_start.Reads.Learnt (λ κs a. SameState machineAt)
+  pub machine-step-in : SettledAs bridge.lent_calls.machine_step_in.ended bridge.lent_calls.machine_step_in.Reads.Learnt (λ κs a. SameState machineAt)

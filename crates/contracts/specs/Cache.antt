@@ -1,6 +1,8 @@
 -- The L1 tag cache: two outcomes that a contract of `cache` admits coincide (`Settled.antt`).
-use Rattle.contracts.specs.Settled.{Settled}
+use Rattle.contracts.specs.Settled.{Settled, SettledAs}
+use Rattle.contracts.specs.Words.{SameWords}
 use Rattle.cache.proofs as cache
+use Rattle.cache.specs.Flat.{cacheWords, cacheAt}
 
 pub record Cache : Type 0 where
   pub bank-new : Settled cache.Bank.new.ended cache.Bank.new.Reads.Learnt
@@ -23,11 +25,14 @@ pub record Cache : Type 0 where
   pub read-byte : Settled cache.L1Cache.read_byte.ended cache.L1Cache.read_byte.Reads.Learnt
   pub write-byte : Settled cache.L1Cache.write_byte.ended cache.L1Cache.write_byte.Reads.Learnt
 
--- where the tags stand
-pub record CacheLent : Type 0 where
-  pub touch : Settled cache.lent.touch.ended cache.lent.touch.Reads.Learnt
-  pub snoop : Settled cache.lent.snoop.ended cache.lent.snoop.Reads.Learnt
-  pub external-write : Settled cache.lent.external_write.ended cache.lent.external_write.Reads.Learnt
-  pub read-reg-lent : Settled cache.registers_lent.read_reg_lent.ended cache.registers_lent.read_reg_lent.Reads.Learnt
-  pub write-reg-lent : Settled cache.registers_lent.write_reg_lent.ended cache.registers_lent.write_reg_lent.Reads.Learnt
-  pub reset-lent : Settled cache.registers_lent.reset_lent.ended cache.registers_lent.reset_lent.Reads.Learnt
+-- where the cache's words stand
+pub record CacheFlat : Type 0 where
+  pub load : SettledAs cache.flat.load.ended cache.flat.load.Reads.Learnt (λ κs a. SameWords cacheWords cacheAt (a .0 .now))
+  pub fetch : SettledAs cache.flat.fetch.ended cache.flat.fetch.Reads.Learnt (λ κs a. SameWords cacheWords cacheAt (a .0 .now))
+  pub store : SettledAs cache.flat.store.ended cache.flat.store.Reads.Learnt (λ κs a. SameWords cacheWords cacheAt (a .0 .now))
+  pub external-write : SettledAs cache.flat.external_write.ended cache.flat.external_write.Reads.Learnt (λ κs a. SameWords cacheWords cacheAt (a .0 .now))
+  pub read-reg : Settled cache.flat.read_reg.ended cache.flat.read_reg.Reads.Learnt
+  pub write-reg : SettledAs cache.flat.write_reg.ended cache.flat.write_reg.Reads.Learnt (λ κs a. SameWords cacheWords cacheAt (a .0 .now))
+  pub reset : SettledAs cache.flat.reset.ended cache.flat.reset.Reads.Learnt (λ κs a. SameWords cacheWords cacheAt (a .0 .now))
+  pub pack : SettledAs cache.flat.pack.ended cache.flat.pack.Reads.Learnt (λ κs a. SameWords cacheWords cacheAt (a .0 .now))
+  pub unpack : Settled cache.flat.unpack.ended cache.flat.unpack.Reads.Learnt

@@ -1,5 +1,7 @@
 pub mod Settled
+pub mod Words
 pub mod Common
+pub mod Layout
 pub mod Text
 pub mod Digest
 pub mod Irqc

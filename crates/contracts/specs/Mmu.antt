@@ -1,13 +1,8 @@
 -- TLB, walk and page check: two outcomes that a contract of `mmu` admits coincide (`Settled.antt`).
-use Prim.Native.Nat.{ℕ, _^_, _<_}
-use mathlib.Core.Path.{_≡_}
-use mathlib.Core.List.{List}
 use Rattle.contracts.specs.Settled.{Settled, SettledAs}
+use Rattle.contracts.specs.Words.{SameWords}
 use Rattle.mmu.proofs as mmu
-use Rattle.mmu.specs.Words.{tlbOf, Sixteen, foundAs}
-use Rattle.mmu.specs.declared.check.Verdict.the-variants.{Allowed}
-use Rattle.mmu.specs.declared.words.Control.{Control}
-use Rattle.mmu.specs.declared.words.Found.{Found}
+use Rattle.mmu.specs.Flat.{vmWords, vmAt}
 
 pub record Mmu : Type 0 where
   pub check-page : Settled mmu.vm.Vm.check_page.ended mmu.vm.Vm.check_page.Reads.Learnt
@@ -27,27 +22,13 @@ pub record Mmu : Type 0 where
   pub vm-lookup : Settled mmu.vm.Vm.lookup.ended mmu.vm.Vm.lookup.Reads.Learnt
   pub vm-fill : Settled mmu.vm.Vm.fill.ended mmu.vm.Vm.fill.Reads.Learnt
   pub walk : Settled mmu.walk.walk.ended mmu.walk.walk.Reads.Learnt
+  pub vm-frame-of : Settled mmu.vm.Vm.frame_of.ended mmu.vm.Vm.frame_of.Reads.Learnt
 
--- `check_lent`: verdict, walk reads, victim and entries are fixed, and the page where the access is allowed
-pub record SameFound (c : Control) (r : Found) (ks ls : List ℕ) (r′ : Found) (ks′ ls′ : List ℕ) : Type 0 where
-  pub found : foundAs r c ks ls ≡ foundAs r′ c ks′ ls′
-  pub frame : r .verdict ≡ Allowed → r .ppn ≡ r′ .ppn
-
--- where the TLB's words stand: an invalid entry has several words, so the entries are fixed and not the words. That there are sixteen, and
--- that an address is below 2^32, the types of the arrays and of the number say.
-pub record MmuLent : Type 0 where
-  pub words-of : SettledAs mmu.words.words_of.ended mmu.words.words_of.Reads.Learnt (λ κs a o o′. tlbOf (o .0 .keys) (o .0 .leaves) ≡ tlbOf (o′ .0 .keys) (o′ .0 .leaves))
-  pub put-tlb :
-      SettledAs mmu.words.put_tlb.ended mmu.words.put_tlb.Reads.Learnt
-      (λ κs a o o′. tlbOf (o .1 .0) (o .1 .1 .0) ≡ tlbOf (o′ .1 .0) (o′ .1 .1 .0))
-  pub tlb-of : Settled mmu.words.tlb_of.ended mmu.words.tlb_of.Reads.Learnt
-  -- its arguments: keys, leaves, control, memory, base, address, access
-  pub check-lent :
-      SettledAs mmu.words.check_lent.ended mmu.words.check_lent.Reads.Learnt
-      (λ κs a o o′. Sixteen (a .0 .now) (a .1 .0 .now) → a .1 .1 .1 .1 .1 .0 < 2 ^ 32 → SameFound (a .1 .1 .0) (o .0) (o .1 .0) (o .1 .1 .0) (o′ .0) (o′ .1 .0) (o′ .1 .1 .0))
-  pub flush-lent :
-      SettledAs mmu.flush_lent.flush_lent.ended mmu.flush_lent.flush_lent.Reads.Learnt
-      (λ κs a o o′. Sixteen (a .0 .now) (a .1 .0 .now) → tlbOf (o .1 .0) (o .1 .1 .0) ≡ tlbOf (o′ .1 .0) (o′ .1 .1 .0))
-  pub invalidate-lent :
-      SettledAs mmu.flush_lent.invalidate_lent.ended mmu.flush_lent.invalidate_lent.Reads.Learnt
-      (λ κs a o o′. (ls : List ℕ) → Sixteen (a .0 .now) ls → tlbOf (o .1 .0) ls ≡ tlbOf (o′ .1 .0) ls)
+-- where the words of Extension V's state stand
+pub record MmuFlat : Type 0 where
+  pub check-pages : SettledAs mmu.flat.check_pages.ended mmu.flat.check_pages.Reads.Learnt (λ κs a. SameWords vmWords vmAt (a .0 .now))
+  pub frame-of : Settled mmu.flat.frame_of.ended mmu.flat.frame_of.Reads.Learnt
+  pub flush : SettledAs mmu.flat.flush.ended mmu.flat.flush.Reads.Learnt (λ κs a. SameWords vmWords vmAt (a .0 .now))
+  pub invalidate : SettledAs mmu.flat.invalidate.ended mmu.flat.invalidate.Reads.Learnt (λ κs a. SameWords vmWords vmAt (a .0 .now))
+  pub pack : SettledAs mmu.flat.pack.ended mmu.flat.pack.Reads.Learnt (λ κs a. SameWords vmWords vmAt (a .0 .now))
+  pub unpack : Settled mmu.flat.unpack.ended mmu.flat.unpack.Reads.Learnt

@@ -1,19 +1,11 @@
 -- The privilege state: two outcomes that a contract of `privilege` admits coincide (`Settled.antt`).
 use Prim.Native.Nat.{ℕ}
-use mathlib.Core.Path.{_≡_}
 use mathlib.Core.List.{List}
 use Rattle.contracts.specs.Settled.{Settled, SettledAs}
-use Rattle.mmu.specs.Words.{Sixteen}
-use Rattle.mmu.specs.declared.words.Control.{Control}
+use Rattle.contracts.specs.Words.{SameWords}
 use Rattle.privilege.proofs as privilege
-use Rattle.privilege.specs.Lent.{InPage, afterwards}
-use Rattle.privilege.specs.RegionWords.{regionsOf}
-use Rattle.privilege.specs.RegistersLent.{leftBy}
-use Rattle.privilege.specs.declared.check.AccessChecked.{AccessChecked}
-use Rattle.privilege.specs.declared.check.Permission.the-variants.{Allowed}
-use Rattle.privilege.specs.declared.lent.Permitted.{Permitted}
-use Rattle.privilege.specs.declared.lent.Status.{Status}
-use Rattle.privilege.specs.declared.region.Region.{Region}
+use Rattle.privilege.specs.Flat.{systemWords, sysAt, regAt}
+use Rattle.privilege.specs.declared.state.SystemState.{SystemState}
 
 pub record Privilege : Type 0 where
   pub data-size : Settled privilege.check.data_size.ended privilege.check.data_size.Reads.Learnt
@@ -43,43 +35,23 @@ pub record Privilege : Type 0 where
   pub swap-bank : Settled privilege.state.SystemState.swap_bank.ended privilege.state.SystemState.swap_bank.Reads.Learnt
   pub enter-trap : Settled privilege.state.SystemState.enter_trap.ended privilege.state.SystemState.enter_trap.Reads.Learnt
   pub leave-trap : Settled privilege.state.SystemState.leave_trap.ended privilege.state.SystemState.leave_trap.Reads.Learnt
+  pub read-rows : Settled privilege.rows.read_rows.ended privilege.rows.read_rows.Reads.Learnt
+  pub write-rows : Settled privilege.rows.write_rows.ended privilege.rows.write_rows.Reads.Learnt
 
--- a check's answer and what it leaves, as the check by value answers it
-abbrev pub checkedAs : Status → Control → List Region → Permitted → List ℕ → List ℕ → AccessChecked
-checkedAs s c rs r ks ls = record { sys = afterwards s c rs r ks ls; permission = r .permission; reads = r .reads }
+-- the privilege state and R0 to R31
+abbrev pub stateAt : List ℕ → SystemState × List ℕ
+stateAt l = (sysAt l, regAt l)
 
--- `check_access` and `check_apart`: permission, walk reads and the state are fixed, and the first byte's place where the access is allowed
-pub record SameChecked (s : Status) (c : Control) (rs : List Region) (r : Permitted) (ks ls : List ℕ) (r′ : Permitted) (ks′ ls′ : List ℕ) : Type 0 where
-  pub checked : checkedAs s c rs r ks ls ≡ checkedAs s c rs r′ ks′ ls′
-  pub place : r .permission ≡ Allowed → r .pa ≡ r′ .pa
-
--- where the registers and the words of regions and TLB stand
-pub record PrivilegeLent : Type 0 where
-  pub status-of : Settled privilege.lent.status_of.ended privilege.lent.status_of.Reads.Learnt
-  pub state-of : Settled privilege.lent.state_of.ended privilege.lent.state_of.Reads.Learnt
-  pub enter-trap : Settled privilege.lent.enter_trap.ended privilege.lent.enter_trap.Reads.Learnt
-  pub leave-trap : Settled privilege.lent.leave_trap.ended privilege.lent.leave_trap.Reads.Learnt
-  pub regions-of : Settled privilege.region_words.regions_of.ended privilege.region_words.regions_of.Reads.Learnt
-  pub put-regions : Settled privilege.region_words.put_regions.ended privilege.region_words.put_regions.Reads.Learnt
-  -- its arguments: status, control, regions, keys, leaves, memory, base, address, length, access
-  pub check-access-lent :
-      SettledAs privilege.lent.check_access.ended privilege.lent.check_access.Reads.Learnt
-      (λ κs a o o′.
-      Sixteen (a .1 .1 .1 .0 .now) (a .1 .1 .1 .1 .0 .now) →
-      InPage (a .1 .1 .1 .1 .1 .1 .1 .0) (a .1 .1 .1 .1 .1 .1 .1 .1 .0) →
-      SameChecked (a .0) (a .1 .0) (regionsOf (a .1 .1 .0 .now)) (o .0) (o .1 .1 .1 .1 .0) (o .1 .1 .1 .1 .1 .0) (o′ .0) (o′ .1 .1 .1 .1 .0) (o′ .1 .1 .1 .1 .1 .0))
-  -- with the same arguments
-  pub check-apart :
-      SettledAs privilege.lent.check_apart.ended privilege.lent.check_apart.Reads.Learnt
-      (λ κs a o o′.
-      Sixteen (a .1 .1 .1 .0 .now) (a .1 .1 .1 .1 .0 .now) →
-      SameChecked (a .0) (a .1 .0) (regionsOf (a .1 .1 .0 .now)) (o .0) (o .1 .1 .1 .1 .0) (o .1 .1 .1 .1 .1 .0) (o′ .0) (o′ .1 .1 .1 .1 .0) (o′ .1 .1 .1 .1 .1 .0))
-  pub read-sr-lent : Settled privilege.registers_lent.read_sr_lent.ended privilege.registers_lent.read_sr_lent.Reads.Learnt
-  -- its arguments: status, control, regions, keys, leaves, registers, number, value; the state, the registers and the answer are fixed
-  pub write-sr-lent :
-      SettledAs privilege.registers_lent.write_sr_lent.ended privilege.registers_lent.write_sr_lent.Reads.Learnt
-      (λ κs a o o′.
-      Sixteen (a .1 .1 .1 .0 .now) (a .1 .1 .1 .1 .0 .now) →
-      leftBy (o .0) (regionsOf (o .1 .1 .1 .0)) (o .1 .1 .1 .1 .0) (o .1 .1 .1 .1 .1 .0) (o .1 .1 .1 .1 .1 .1 .0) ≡ leftBy (o′ .0) (regionsOf (o′ .1 .1 .1 .0)) (o′ .1 .1 .1 .1 .0) (o′ .1 .1 .1 .1 .1 .0) (o′ .1 .1 .1 .1 .1 .1 .0))
-  pub read-run : Settled privilege.run.read_run.ended privilege.run.read_run.Reads.Learnt
-  pub write-run : Settled privilege.run.write_run.ended privilege.run.write_run.Reads.Learnt
+-- where their words stand
+pub record PrivilegeFlat : Type 0 where
+  pub check-access : SettledAs privilege.flat.access.check_access.ended privilege.flat.access.check_access.Reads.Learnt (λ κs a. SameWords systemWords stateAt (a .0 .now))
+  pub enter-trap : SettledAs privilege.flat.traps.enter_trap.ended privilege.flat.traps.enter_trap.Reads.Learnt (λ κs a. SameWords systemWords stateAt (a .0 .now))
+  pub leave-trap : SettledAs privilege.flat.traps.leave_trap.ended privilege.flat.traps.leave_trap.Reads.Learnt (λ κs a. SameWords systemWords stateAt (a .0 .now))
+  pub read-sr : Settled privilege.flat.registers.read_sr.ended privilege.flat.registers.read_sr.Reads.Learnt
+  pub write-sr : SettledAs privilege.flat.registers.write_sr.ended privilege.flat.registers.write_sr.Reads.Learnt (λ κs a. SameWords systemWords stateAt (a .0 .now))
+  pub physical : Settled privilege.flat.state.physical.ended privilege.flat.state.physical.Reads.Learnt
+  pub set-reg : SettledAs privilege.flat.state.set_reg.ended privilege.flat.state.set_reg.Reads.Learnt (λ κs a. SameWords systemWords stateAt (a .0 .now))
+  pub reset : SettledAs privilege.flat.state.reset.ended privilege.flat.state.reset.Reads.Learnt (λ κs a. SameWords systemWords stateAt (a .0 .now))
+  pub pack : SettledAs privilege.flat.state.pack.ended privilege.flat.state.pack.Reads.Learnt (λ κs a. SameWords systemWords stateAt (a .0 .now))
+  pub unpack : Settled privilege.flat.state.unpack.ended privilege.flat.state.unpack.Reads.Learnt
+  pub unpack-reg : Settled privilege.flat.state.unpack_reg.ended privilege.flat.state.unpack_reg.Reads.Learnt

@@ -29,8 +29,8 @@ use Rattle.privilege.specs.declared.check.Permission.the-variants.{Allowed, Den
 use Rattle.privilege.specs.declared.state.SystemState.{SystemState}
 use Rattle.privilege.specs.declared.transfer.DataRead.{DataRead}
 use Rattle.privilege.specs.declared.transfer.DataWritten.{DataWritten}
-use Rattle.machine.specs.Access.{Result, isRead, answered, asked, readOutcome, writeOutcome, accessOf}
-use Rattle.machine.specs.Access.Laws.{readResult, writeResult, access-refused, access-denied, access-read, access-written}
+use Rattle.machine.specs.Access.{Result, isRead, accessAnswer, asked, readOutcome, writeOutcome, accessOf}
+use Rattle.machine.specs.Access.Laws.{access-refused, access-denied, access-read, access-written}
 use Rattle.machine.specs.State.{withSys, withCache}
 use Rattle.machine.specs.declared.access.Accessed.{Accessed}
 use Rattle.machine.specs.declared.state.Machine.{Machine}
@@ -153,10 +153,10 @@ module _ (hidden : ℕ → Bool) (M : Machine) (m m′ : Memory) (run : InUserMo
       held-read : isRead (o .kind) ≡ true → Held hidden (M .sys .vm) m m′ (resultOf o M m) (resultOf o M m′)
       held-read k =
           let M₂ = withSys M (c .sys) in
-          let ask = asked (o .kind) M₂ (o .addr) in
+          let ask = asked (o .kind) M₂ at in
           rw (access-read (o .kind) M m (o .addr) (o .size) (o .value) c refl k p, access-read (o .kind) M m′ (o .addr) (o .size) (o .value) c c-same k p)
           (held-after _ _ m m′
-          (ap (λ (d : DataRead). answered (withCache M₂ (ask .cache)) (readOutcome d) (ask .stall) (c .reads)) (load-same m m′ (o .size) (spots (c .sys) (o .addr) (o .size)) (alike .map) seen-alike))
+          (ap (λ (d : DataRead). accessAnswer (withCache M₂ (ask .cache)) (readOutcome d) (ask .stall) (c .reads)) (load-same m m′ (o .size) at (alike .map) seen-alike))
           refl alike (λ a t. refl) (λ a h. refl) (λ a h. refl) (λ a n. refl))
 
       -- a byte that is not open to this access is at none of its addresses
@@ -204,10 +204,10 @@ module _ (hidden : ℕ → Bool) (M : Machine) (m m′ : Memory) (run : InUserMo
   held-written =
       let k = checkAccess m (M .sys) a n Write in
       let M₂ = withSys M s in
-      let ask = asked Write M₂ a in
+      let ask = asked Write M₂ (spots s a n) in
       rw (access-written M m a n v k refl p, access-written M m′ a n v k (c-same hidden M m m′ run slots alike here store al) p)
       (held-after hidden M m m′ run slots alike here store al _ _ (memoryAfter m s a n v) (memoryAfter m′ s a n v)
-      (ap (λ (d : DataWritten). answered (withCache M₂ (ask .cache)) (writeOutcome d) (ask .stall) (k .reads)) (store-same m m′ n (spots s a n) (alike .map)))
+      (ap (λ (d : DataWritten). accessAnswer (withCache M₂ (ask .cache)) (writeOutcome d) (ask .stall) (k .reads)) (store-same m m′ n (spots s a n) (alike .map)))
       refl still-alike tables-stay (hidden-stays m) (hidden-stays m′) (λ b shut. store-other m n (spots s a n) v b (away b shut)))
 
 -- ---- any access

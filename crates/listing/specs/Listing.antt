@@ -1,5 +1,6 @@
 -- The text of a run: document 01, 'Event script and its listing'.
 --
+--   line c d stall reads == what one event shows: its letter, digits, stall and walk reads
 --   ascii t             == a text's bytes, one a character
 --   newline             == the end of a line
 --   spaced t            == the text after a blank
@@ -21,6 +22,9 @@ use lib.ListN.{length}
 use Rattle.text.specs.Text.{hexOf, decimalOf}
 use Rattle.listing.specs.declared.Line.{Line}
 pub mod Laws
+
+abbrev pub line : ℕ → ℕ → ℕ → ℕ → Line
+line letter digits stall reads = record { letter = letter; digits = digits; stall = stall; reads = reads }
 
 abbrev pub ascii : String → List ℕ
 ascii none = []

@@ -5,7 +5,7 @@
 ghost use mathlib.Core.Path.{_≡_};
 ghost use mathlib.Core.List.{[], _∷_, _++_};
 ghost use Rattle.text.specs.Text.{written, hexOf, decimalOf};
-ghost use Rattle.listing.specs.Listing.{newline, spaced, lineText, numbered, endText, refusedText};
+ghost use Rattle.listing.specs.Listing.{line, newline, spaced, lineText, numbered, endText, refusedText};
 ghost use Rattle.listing.specs.Corners.{Corners};
 use text::put_byte;
 use text::put_bytes;
@@ -24,6 +24,19 @@ pub struct Line {
     pub stall: u64,
     // Walk reads.
     pub reads: u32,
+}
+
+impl Line {
+    pub fn new(letter: u8, digits: u32, stall: u64, reads: u32) -> Self
+        ensures { λ r. ⌜ r ≡ line letter digits stall reads ⌝ }
+    {
+        Self {
+            letter,
+            digits,
+            stall,
+            reads,
+        }
+    }
 }
 
 // The index and the letter.

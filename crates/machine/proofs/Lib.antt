@@ -1,10 +1,7 @@
 pub mod States
+pub mod Summed
+pub mod Words
 pub mod Accesses
 pub mod Events
-pub mod Moves
-pub mod PartWords
-pub mod Packs
-pub mod StateEvents
-pub mod Summed
-pub mod StepInPlace
 pub mod Runs
+pub mod ByValue

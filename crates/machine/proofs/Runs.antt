@@ -1,6 +1,6 @@
 -- A run's loop: what is left of the run, after each event. Assumes nothing.
 use Prim.Native.Nat.{ℕ, _+_, _*_, _-_, _^_, _≤_, _<_}
-use mathlib.Core.Path.{_≡_, sym, ap, _∙_}
+use mathlib.Core.Path.{_≡_, refl, sym, ap, _∙_}
 use mathlib.Core.List.{List, [], _++_}
 use native.Mathlib.Omega.{arith}
 use lib.ListN.{length}
@@ -22,10 +22,8 @@ use Rattle.script.specs.declared.header.Script.the-variants.{Good, Refused}
 use Rattle.text.specs.Text.{written}
 use Rattle.machine.specs.Event.{stepOf}
 use Rattle.machine.specs.Event.Laws.{step-lent}
-use Rattle.cache.specs.declared.lent.Range.{Range}
-use Rattle.mmu.specs.Words.{tlbOf}
-use Rattle.privilege.specs.declared.region.Region.{Region}
-use Rattle.machine.specs.Parts.{Parts, rangeOf, arrays, machineOf, Unpacked}
+use Rattle.machine.specs.Flat.{stateWords, machineAt, StepsAny}
+use Rattle.machine.specs.FlatRun.{RunsAny}
 use Rattle.machine.specs.Run.{Run, after, runFrom, scriptRun, listed, listingOf}
 use Rattle.machine.specs.Run.Laws.{run-lines, run-none, run-next}
 use Rattle.machine.specs.State.{newMachine}
@@ -135,30 +133,42 @@ module _ (n : ℕ) (s : List ℕ) (first base : ℕ) where
       unfolding totalsFrom
       going-totals = sym (g .3 ∙ ap (λ (r : Run). totalsFrom t (r .lines)) (left-none n k s first M base l le ge))
 
--- the end of a run that started on the parts of M
-module _ (n : ℕ) (s : List ℕ) (first base : ℕ) (M₀ M : Machine) (u : M₀ ≡ M) (l₀ out₀ : List ℕ) (at k : ℕ) (N : Machine) (l out : List ℕ) (place : ℕ) (t : Totals)
-    (g : Going n s first base (runFrom n s first M₀ (lent base l₀)) (written (out₀, at) (linesFrom 0 (runFrom n s first M₀ (lent base l₀) .lines) ++ endText n)) k N l out place t)
-    (le : k ≤ n) (ge : n ≤ k) where
-  abbrev R : Run
-  R = runFrom n s first M₀ (lent base l₀)
+-- ---- where the machine's words stand
 
-  pub end-machine : (N′ : Machine) → N′ ≡ N → N′ ≡ runFrom n s first M (lent base l₀) .machine
-  end-machine N′ h = rw (← u) (going-machine n s first base R _ k N l out place t g le ge N′ h)
+-- a step takes the run on
+pub words-next : (n : ℕ) (s : List ℕ) (first base : ℕ) (R : Run) (z : List ℕ × ℕ) (k : ℕ) (l bytes out : List ℕ) (place : ℕ) (t : Totals)
+    → Going n s first base R z k (machineAt l) bytes out place t → (e : Event) (l′ : List ℕ) (x : Line) (bytes′ out′ : List ℕ) (place′ : ℕ) (t′ : Totals) → length l ≡ stateWords → k < n
+    → e ≡ eventAt s (first + 12 * k) → StepsAny l l′ base bytes e x bytes′ → (out′, place′) ≡ written (out, place) (lineText k x) → t′ ≡ counted t x
+    → Going n s first base R z (k + 1) (machineAt l′) bytes′ out′ place′ t′
+words-next n s first base R z k l bytes out place t g e l′ x bytes′ out′ place′ t′ long h is w q c =
+    let step = w .0 long .1 in
+    going-next n s first base R z k (machineAt l) bytes out place t g e (machineAt l′) x bytes′ out′ place′ t′ h is (step .0) (step .1) q c
 
-  pub end-memory : l ≡ runFrom n s first M (lent base l₀) .memory .bytes
-  end-memory = rw (← u) (going-memory n s first base R _ k N l out place t g le ge)
+module _ (n : ℕ) (s : List ℕ) (first base : ℕ) (l₀ bytes₀ out₀ : List ℕ) (at : ℕ) where
+  abbrev pub whole : Run
+  whole = runFrom n s first (machineAt l₀) (lent base bytes₀)
 
-  pub end-lines : (out′ : List ℕ) (place′ : ℕ) → (out′, place′) ≡ written (out, place) (endText n)
-      → (out′, place′) ≡ written (out₀, at) (linesFrom 0 (runFrom n s first M (lent base l₀) .lines) ++ endText n)
-  end-lines out′ place′ w = rw (← u) (going-lines n s first base R _ k N l out place t g le ge out′ place′ w)
+  abbrev pub text : List ℕ × ℕ
+  text = written (out₀, at) (linesFrom 0 (whole .lines) ++ endText n)
 
-  pub end-totals : t ≡ totalsFrom noTotals (runFrom n s first M (lent base l₀) .lines)
-  end-totals = rw (← u) (going-totals n s first base R _ k N l out place t g le ge)
+  pub words-end : (k : ℕ) (l bytes out : List ℕ) (place : ℕ) (t : Totals) → Going n s first base whole text k (machineAt l) bytes out place t → k ≤ n → n ≤ k
+      → length l₀ ≡ stateWords → length l ≡ length l₀ → (out′ : List ℕ) (place′ : ℕ) → (out′, place′) ≡ written (out, place) (endText n)
+      → RunsAny l₀ l base bytes₀ s first n out₀ at (record { place = place′; totals = t }) bytes out′
+  words-end k l bytes out place t g le ge long same out′ place′ w = (
+    (λ h. (
+      same ∙ long,
+      (
+        going-machine n s first base whole text k (machineAt l) bytes out place t g le ge (machineAt l) refl,
+        going-memory n s first base whole text k (machineAt l) bytes out place t g le ge,
+        going-lines n s first base whole text k (machineAt l) bytes out place t g le ge out′ place′ w,
+        going-totals n s first base whole text k (machineAt l) bytes out place t g le ge,
+      ),
+    )),
+    (λ h. absurd (h long)),
+  )
 
--- a machine's parts are that machine
-pub parts-are : (M : Machine) (p : Parts) (rg : Range) (rs : List Region) (ks ls : List ℕ) → Unpacked M p → rg ≡ rangeOf (M .cache) → rs ≡ M .sys .regions
-    → tlbOf ks ls ≡ M .sys .vm .tlb → machineOf rg rs p (arrays ks ls (M .reg) (M .cache .i .tags) (M .cache .d .tags)) ≡ M
-parts-are M p rg rs ks ls u h r t = rw (h, r) (u ks ls t)
+  pub words-none : (t : Totals) → (length l₀ ≡ stateWords → ⊥) → t ≡ noTotals → RunsAny l₀ l₀ base bytes₀ s first n out₀ at (record { place = at; totals = t }) bytes₀ out₀
+  words-none t h e = (λ p. absurd (h p), λ p. (refl, rw e))
 
 -- the event of a place that goes along
 pub event-here : (s : List ℕ) (e : Event) (from first k : ℕ) → e ≡ eventAt s from → from ≡ first + 12 * k → e ≡ eventAt s (first + 12 * k)

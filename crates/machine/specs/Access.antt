@@ -1,14 +1,19 @@
 -- The combined access: document 01, "Combined access (added): check; the cache once, at the first byte's physical address; memory."
 --
 --   Result                == what an access answers, and the memory that it leaves
---   presented k c pa      == the cache asked once: a load or fetch may cost its stall, a store snoops and costs 0
+--   lookedUp c a n        == where an access's bytes are after its check c: each is looked up in the TLB again
+--   linesOf l             == the addresses at which an access is presented to the cache whose bytes stand at l: the first byte's
+--   presented k c pa      == the cache asked at one address: a load or fetch may cost its stall, a store snoops and costs 0
+--   presentedEach k c l   == the same at each of the addresses l, in their order; the stalls add up
 --   readOutcome, writeOutcome == the data's answer: a value, or a bus error and no value; a store answers 0
 --   deniedWith, refusedWith == a denied or refused access: "A denied check touches neither"
---   readMoved, writeMoved == an allowed load or fetch, and an allowed store: the cache, then memory
---   moved k M m ..        == an allowed access
+--   moved k M m l n v reads == an allowed access whose n bytes stand at l: the cache, then memory
 --   accessOf k M m a n v  == the access k of n bytes at a, storing v: refusal 2, then 1
-use Prim.Native.Nat.{ℕ}
+--
+-- Where an access's bytes are is one argument, a list of physical addresses: cache and memory see nothing else of an address.
+use Prim.Native.Nat.{ℕ, _+_}
 use mathlib.Core.Bool.{Bool, true, false}
+use mathlib.Core.List.{List, [], _∷_}
 use Rattle.cache.specs.Cache.{loaded, fetched, stored}
 use Rattle.cache.specs.declared.L1Cache.{L1Cache}
 use Rattle.cache.specs.declared.CacheAccess.{CacheAccess}
@@ -18,7 +23,7 @@ use Rattle.mmu.specs.declared.exception.Access.{Access}
 use Rattle.mmu.specs.declared.exception.Access.the-variants.{Read, Write, Fetch}
 use Rattle.mmu.specs.declared.exception.Exception as exception
 use Rattle.privilege.specs.Access.{checkAccess}
-use Rattle.privilege.specs.Transfer.{physicalOf, dataRead, dataWritten, memoryAfter}
+use Rattle.privilege.specs.Transfer.{spots, loadAt, storeAt, memoryAt}
 use Rattle.privilege.specs.declared.check.AccessChecked.{AccessChecked}
 use Rattle.privilege.specs.declared.check.Permission.{Permission}
 use Rattle.privilege.specs.declared.check.Permission.the-variants as permission
@@ -44,19 +49,39 @@ isRead Read = true
 isRead Fetch = true
 isRead Write = false
 
-abbrev pub answered : Machine → Outcome → ℕ → ℕ → Accessed
-answered M outcome stall reads = record { machine = M; outcome = outcome; stall = stall; reads = reads }
+abbrev pub accessAnswer : Machine → Outcome → ℕ → ℕ → Accessed
+accessAnswer M outcome stall reads = record { machine = M; outcome = outcome; stall = stall; reads = reads }
 
 abbrev pub deniedWith : Machine → SystemState → exception.Exception → ℕ → Accessed
-deniedWith M sys e reads = answered (withSys M sys) (Exception e) 0 reads
+deniedWith M sys e reads = accessAnswer (withSys M sys) (Exception e) 0 reads
 
 abbrev pub refusedWith : Machine → Refusal → Accessed
-refusedWith M r = answered M (Refused r) 0 0
+refusedWith M r = accessAnswer M (Refused r) 0 0
+
+-- ---- the cache
+
+-- "the cache once, at the first byte's physical address"
+unfoldable pub linesOf : List ℕ → List ℕ
+linesOf [] = []
+linesOf (pa ∷ l) = pa ∷ []
 
 unfoldable pub presented : Access → L1Cache → ℕ → CacheAccess
 presented Read c pa = loaded c pa
 presented Fetch c pa = fetched c pa
 presented Write c pa = record { cache = stored c pa; stall = 0 }
+
+unfoldable pub presentedEach : Access → L1Cache → List ℕ → CacheAccess
+presentedEach k c [] = record { cache = c; stall = 0 }
+presentedEach k c (pa ∷ l) =
+    let first = presented k c pa in
+    let rest = presentedEach k (first .cache) l in
+    record { cache = rest .cache; stall = first .stall + rest .stall }
+
+-- an access whose bytes stand at l
+abbrev pub asked : Access → Machine → List ℕ → CacheAccess
+asked k M l = presentedEach k (M .cache) (linesOf l)
+
+-- ---- memory
 
 unfoldable pub readOutcome : DataRead → Outcome
 readOutcome (read.Value v) = Value v
@@ -68,37 +93,40 @@ writeOutcome written.Done = Value 0
 writeOutcome written.BusError = BusError
 writeOutcome (written.Refused r) = Refused r
 
--- the cache is asked once, at the first byte's physical address
-abbrev pub asked : Access → Machine → ℕ → CacheAccess
-asked k M a = presented k (M .cache) (physicalOf (M .sys) a)
+-- what the data of an access answers
+unfoldable pub dataOutcome : Access → Memory → ℕ → List ℕ → Outcome
+dataOutcome Read m n l = readOutcome (loadAt m n l)
+dataOutcome Fetch m n l = readOutcome (loadAt m n l)
+dataOutcome Write m n l = writeOutcome (storeAt m n l)
 
--- an allowed load or fetch
-unfoldable pub readMoved : Access → Machine → Memory → ℕ → ℕ → ℕ → Accessed
-readMoved k M m a n reads =
-    answered (withCache M (asked k M a .cache)) (readOutcome (dataRead m (M .sys) a n)) (asked k M a .stall) reads
+-- the memory that it leaves: "a store writes its inside bytes"
+unfoldable pub dataMemory : Access → Memory → ℕ → List ℕ → ℕ → Memory
+dataMemory Read m n l v = m
+dataMemory Fetch m n l v = m
+dataMemory Write m n l v = memoryAt m n l v
 
--- an allowed store
-unfoldable pub writeMoved : Machine → Memory → ℕ → ℕ → ℕ → ℕ → Result
-writeMoved M m a n v reads =
+-- ---- the access
+
+-- an allowed access: the cache, then memory
+abbrev pub moved : Access → Machine → Memory → List ℕ → ℕ → ℕ → ℕ → Result
+moved k M m l n v reads =
     record {
-      accessed = answered (withCache M (asked Write M a .cache)) (writeOutcome (dataWritten m (M .sys) a n)) (asked Write M a .stall) reads;
-      memory = memoryAfter m (M .sys) a n v;
+      accessed = accessAnswer (withCache M (asked k M l .cache)) (dataOutcome k m n l) (asked k M l .stall) reads;
+      memory = dataMemory k m n l v;
     }
 
-unfoldable pub moved : Access → Machine → Memory → ℕ → ℕ → ℕ → ℕ → Result
-moved Read M m a n v reads = record { accessed = readMoved Read M m a n reads; memory = m }
-moved Fetch M m a n v reads = record { accessed = readMoved Fetch M m a n reads; memory = m }
-moved Write M m a n v reads = writeMoved M m a n v reads
+-- by what the check permits, and where the bytes are if it does
+unfoldable pub permitted : Access → Machine → Memory → List ℕ → ℕ → ℕ → AccessChecked → Permission → Result
+permitted k M m l n v c permission.Allowed = moved k (withSys M (c .sys)) m l n v (c .reads)
+permitted k M m l n v c (permission.Denied e) = record { accessed = deniedWith M (c .sys) e (c .reads); memory = m }
+permitted k M m l n v c (permission.Refused r) = record { accessed = refusedWith M r; memory = m }
 
--- by what the check permits
-unfoldable pub permitted : Access → Machine → Memory → ℕ → ℕ → ℕ → AccessChecked → Permission → Result
-permitted k M m a n v c permission.Allowed = moved k (withSys M (c .sys)) m a n v (c .reads)
-permitted k M m a n v c (permission.Denied e) = record { accessed = deniedWith M (c .sys) e (c .reads); memory = m }
-permitted k M m a n v c (permission.Refused r) = record { accessed = refusedWith M r; memory = m }
+-- "finds each byte by looking up the TLB again"
+abbrev pub lookedUp : AccessChecked → ℕ → ℕ → List ℕ
+lookedUp c a n = spots (c .sys) a n
 
--- after the check
 abbrev pub afterCheck : Access → Machine → Memory → ℕ → ℕ → ℕ → AccessChecked → Result
-afterCheck k M m a n v c = permitted k M m a n v c (c .permission)
+afterCheck k M m a n v c = permitted k M m (lookedUp c a n) n v c (c .permission)
 
 unfoldable pub accessOf : Access → Machine → Memory → ℕ → ℕ → ℕ → Result
 accessOf k M m a n v = afterCheck k M m a n v (checkAccess m (M .sys) a n k)

@@ -2,7 +2,9 @@
 --
 --   Step                  == what an event's step leaves of machine and memory, and the line that it shows
 --   lineOf outcome ..     == letter and digits: V value, X CAUSE, B 0, N the refusal's number; then stall and walk reads
---   shows M v             == a machine after an event that answers v and costs nothing
+--   showing v, refusing r == the line of an event that answers v and costs nothing, and of one that is refused
+--   shows M v, refuses M r == a machine after such an event
+--   accessKind, storedBy  == the access of kinds 0 to 2, and what it stores
 --   accessEvent M m e     == kinds 0 to 2: load a, store b at a, fetch a
 --   stateEvent M e        == kinds 3 to 15, which touch no memory; above 15 refusal 6
 --   stepOf M m e          == any event
@@ -19,6 +21,7 @@ use Rattle.common.specs.declared.Refusal.{Refusal}
 use Rattle.common.specs.declared.Refusal.the-variants as refusal
 use Rattle.irqc.specs.Irqc.{sourceSet, pendingCleared, maskSet, outputOf}
 use Rattle.irqc.specs.declared.IrqOutput.{IrqOutput}
+use Rattle.listing.specs.Listing.{line}
 use Rattle.listing.specs.declared.Line.{Line}
 use Rattle.memory.specs.Memory.{Memory}
 use Rattle.mmu.specs.Exception.{causeOf}
@@ -48,9 +51,6 @@ pub record Step : Type 0 where
 
 -- ---- lines
 
-abbrev pub line : ℕ → ℕ → ℕ → ℕ → Line
-line letter digits stall reads = record { letter = letter; digits = digits; stall = stall; reads = reads }
-
 -- 'V' is 86, 'X' 88, 'B' 66, 'N' 78
 unfoldable pub lineOf : Outcome → ℕ → ℕ → Line
 lineOf (Value v) stall reads = line 86 v stall reads
@@ -58,11 +58,17 @@ lineOf (Exception e) stall reads = line 88 (causeOf e) stall reads
 lineOf BusError stall reads = line 66 0 stall reads
 lineOf (Refused r) stall reads = line 78 (refusalNumber r) stall reads
 
+abbrev pub showing : ℕ → Line
+showing v = line 86 v 0 0
+
+abbrev pub refusing : Refusal → Line
+refusing r = line 78 (refusalNumber r) 0 0
+
 abbrev pub shows : Machine → ℕ → Stepped
-shows M v = record { machine = M; line = line 86 v 0 0 }
+shows M v = record { machine = M; line = showing v }
 
 abbrev pub refuses : Machine → Refusal → Stepped
-refuses M r = record { machine = M; line = line 78 (refusalNumber r) 0 0 }
+refuses M r = record { machine = M; line = refusing r }
 
 -- ---- kinds 0 to 2
 
@@ -72,11 +78,15 @@ showsAccess a = record { machine = a .machine; line = lineOf (a .outcome) (a .st
 abbrev pub fromAccess : Result → Step
 fromAccess r = record { stepped = showsAccess (r .accessed); memory = r .memory }
 
+-- 0: "load a"; 1: "store b at a"; 2: "fetch a"
+abbrev pub accessKind : ℕ → Access
+accessKind kind = cond (eqb kind 0) Read (cond (eqb kind 1) Write Fetch)
+
+abbrev pub storedBy : Event → ℕ
+storedBy e = cond (eqb (e .kind) 1) (e .b) 0
+
 unfoldable pub accessEvent : Machine → Memory → Event → Step
-accessEvent M m e =
-    fromAccess
-    (cond (eqb (e .kind) 0) (accessOf Read M m (e .a) (e .size) 0)
-    (cond (eqb (e .kind) 1) (accessOf Write M m (e .a) (e .size) (e .b)) (accessOf Fetch M m (e .a) (e .size) 0)))
+accessEvent M m e = fromAccess (accessOf (accessKind (e .kind)) M m (e .a) (e .size) (storedBy e))
 
 -- ---- kinds 3 to 15
 

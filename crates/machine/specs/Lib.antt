@@ -1,7 +1,7 @@
 pub mod State
 pub mod Access
 pub mod Event
+pub mod Flat
 pub mod Totals
-pub mod Parts
-pub mod InPlace
 pub mod Run
+pub mod FlatRun

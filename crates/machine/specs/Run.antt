@@ -1,17 +1,19 @@
 -- A run: its events' steps, one after the other, and its listing. Document 01, 'Event script and its listing'.
 --
 --   Run                   == what a run leaves of machine and memory, and the lines that it shows
---   runFrom n s at M m    == n events of the script s, the first at place `at`, each stepped on what the one before it left
+--   runOver es M m        == the events es, each stepped on what the one before it left
+--   runFrom n s at M m    == the same of n events of the script s, the first at place `at`
 --   scriptRun s h         == a good script's run: a new machine over the image
 --   listingOf s           == what a script prints: its run's lines and the last line, or only `refused` and its number
-use Prim.Native.Nat.{ℕ, zero, suc, _+_}
+use Prim.Native.Nat.{ℕ}
 use mathlib.Core.List.{List, [], _∷_, _++_}
 use lib.ListN.{length}
 use Rattle.common.specs.Refusal.{refusalNumber}
 use Rattle.listing.specs.Listing.{listingText, refusedText}
 use Rattle.listing.specs.declared.Line.{Line}
 use Rattle.memory.specs.Memory.{Memory, lent}
-use Rattle.script.specs.Event.{eventAt}
+use Rattle.script.specs.Event.{eventsFrom}
+use Rattle.script.specs.declared.Event.{Event}
 use Rattle.script.specs.Header.{scriptOf}
 use Rattle.script.specs.Image.{bytesFrom}
 use Rattle.script.specs.declared.header.Header.{Header}
@@ -31,11 +33,14 @@ pub record Run : Type 0 where
 abbrev pub after : Line → Run → Run
 after l r = record { machine = r .machine; memory = r .memory; lines = l ∷ r .lines }
 
-unfoldable pub runFrom : ℕ → List ℕ → ℕ → Machine → Memory → Run
-runFrom zero s at M m = record { machine = M; memory = m; lines = [] }
-runFrom (suc n) s at M m =
-    let step = stepOf M m (eventAt s at) in
-    after (step .stepped .line) (runFrom n s (at + 12) (step .stepped .machine) (step .memory))
+unfoldable pub runOver : List Event → Machine → Memory → Run
+runOver [] M m = record { machine = M; memory = m; lines = [] }
+runOver (e ∷ es) M m =
+    let step = stepOf M m e in
+    after (step .stepped .line) (runOver es (step .stepped .machine) (step .memory))
+
+abbrev pub runFrom : ℕ → List ℕ → ℕ → Machine → Memory → Run
+runFrom n s at M m = runOver (eventsFrom n s at) M m
 
 unfoldable pub scriptRun : List ℕ → Header → Run
 scriptRun s h =

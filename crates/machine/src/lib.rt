@@ -2,8 +2,7 @@
 // its events and its runs. It stands on the contracts of the parts.
 pub mod access;
 pub mod event;
-pub mod in_place;
-pub mod parts;
+pub mod flat;
 pub mod run;
 pub mod state;
 pub mod totals;

@@ -7,23 +7,17 @@ ghost use Rattle.memory.specs.Memory.{lent};
 ghost use Rattle.text.specs.Text.{written};
 ghost use Rattle.machine.specs.Totals.{noTotals, totalsFrom};
 ghost use Rattle.machine.specs.Run.{runFrom, scriptRun, listingOf};
-use crate::in_place::step;
-use crate::parts::machine_of;
-use crate::parts::range_of;
-use crate::parts::unpack;
+use crate::flat;
+use crate::flat::state::STATE_WORDS;
+use crate::flat::state::pack;
+use crate::flat::state::unpack;
 use crate::state::Machine;
 use crate::totals::Totals;
-use listing::put_end;
-use listing::put_line;
 use listing::put_refused;
-use mmu::words::put_tlb;
-use privilege::region_words::put_regions;
-use script::EVENT_SIZE;
 use script::header::Header;
 use script::header::Script;
 use script::header::copy_image;
 use script::header::header_of;
-use script::reader::event_of;
 
 pub struct Ran {
     pub machine: Machine,
@@ -34,7 +28,7 @@ pub struct Ran {
 
 impl Machine {
     // Steps through `count` events of the script, the first at byte `first`, and lists them: a line each, as far as the buffer has
-    // room, and the last line. The loop owns the machine in parts, and an event is done where they stand.
+    // room, and the last line.
     pub fn run(
         self,
         mem: &mut [u8],
@@ -50,47 +44,13 @@ impl Machine {
         ensures { λ r. ⌜ (now (out .exit), r .place) ≡ written (now (out .entry), at) (linesFrom 0 (runFrom count (now (script .entry)) first self (lent base (now (mem .entry))) .lines) ++ endText count) ⌝ }
         ensures { λ r. ⌜ r .totals ≡ totalsFrom noTotals (runFrom count (now (script .entry)) first self (lent base (now (mem .entry))) .lines) ⌝ }
     {
-        let mut parts = [0u64; 23];
-        unpack(&mut parts, self);
-        let cache = self.cache;
-        let range = range_of(cache);
-        let table = self.sys.regions;
-        let mut regions = [0u32; 24];
-        put_regions(&mut regions, table);
-        let tlb = self.sys.vm.tlb;
-        let mut keys = [0u64; 16];
-        let mut leaves = [0u64; 16];
-        put_tlb(&mut keys, &mut leaves, tlb);
-        let mut reg = self.reg;
-        let mut itags = self.cache.i.tags;
-        let mut dtags = self.cache.d.tags;
-        let mut totals = Totals::new();
-        let mut place = at;
-        let mut k: u32 = 0;
-        let mut from = first as usize;
-        while k < count {
-            let event = event_of(script, from);
-            let line = step(
-                &mut parts,
-                range,
-                &mut regions,
-                &mut keys,
-                &mut leaves,
-                &mut reg,
-                &mut itags,
-                &mut dtags,
-                mem,
-                base,
-                event,
-            );
-            totals = totals.add(line);
-            place = put_line(out, place, k, line);
-            k += 1;
-            from += EVENT_SIZE;
-        }
+        let mut state = [0u32; STATE_WORDS];
+        pack(&mut state, self);
+        let listed = flat::run::run(&mut state, mem, base, script, first, count, out, at);
+        let totals = listed.totals;
         Ran {
-            machine: machine_of(&parts, range, &regions, keys, leaves, reg, itags, dtags),
-            place: put_end(out, place, count),
+            machine: unpack(&state),
+            place: listed.place,
             totals,
         }
     }

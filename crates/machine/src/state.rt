@@ -1,6 +1,6 @@
 // The machine's state as one value.
 ghost use mathlib.Core.Path.{_≡_};
-ghost use Rattle.machine.specs.State.{newMachine, resetOf, withSys, withCache, withIrqc, withReg};
+ghost use Rattle.machine.specs.State.{newMachine, resetOf};
 use cache::L1Cache;
 use irqc::IrqController;
 use privilege::state::SystemState;
@@ -38,35 +38,5 @@ impl Machine {
             irqc: self.irqc.reset(),
             reg,
         }
-    }
-
-    pub fn with_sys(mut self, sys: SystemState) -> Self
-        ensures { λ r. ⌜ r ≡ withSys self sys ⌝ }
-    {
-        self.sys = sys;
-        self
-    }
-
-    pub fn with_cache(mut self, cache: L1Cache) -> Self
-        ensures { λ r. ⌜ r ≡ withCache self cache ⌝ }
-    {
-        self.cache = cache;
-        self
-    }
-
-    pub fn with_irqc(mut self, irqc: IrqController) -> Self
-        ensures { λ r. ⌜ r ≡ withIrqc self irqc ⌝ }
-    {
-        self.irqc = irqc;
-        self
-    }
-
-    // The privilege state and the registers, which a trap changes together.
-    pub fn with_reg(mut self, sys: SystemState, reg: [u32; 32]) -> Self
-        ensures { λ r. ⌜ r ≡ withReg self sys reg ⌝ }
-    {
-        self.sys = sys;
-        self.reg = reg;
-        self
     }
 }

@@ -1,9 +1,7 @@
 pub mod Causes
 pub mod Masks
 pub mod Search
-pub mod Keys
 pub mod Walks
 pub mod Pages
-pub mod Lent
-pub mod Flushes
+pub mod Flats
 pub mod Sentences

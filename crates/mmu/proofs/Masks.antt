@@ -1,11 +1,10 @@
 -- A table word's bits, as the code tests them by masks. Assumes nothing.
-use Prim.Native.Nat.{ℕ, _*_, _/_, _%_, _^_, _<_}
-use mathlib.Core.Path.{_≡_, refl, sym, ap, _∙_}
-use mathlib.Core.Bool.{Bool, true, false, not, _&&_, _||_}
+use Prim.Native.Nat.{ℕ, _/_, _%_, _^_}
+use mathlib.Core.Path.{_≡_, sym}
+use mathlib.Core.Bool.{true, false, not}
 use lib.Dec.{eqb}
 use lib.Bits.{bitAnd, and-high}
 use borrow.Author.Tests.{eq-eqb, ne-eqb}
-use Rattle.common.specs.Bits.{bitSet}
 use Rattle.common.specs.Bits.Laws.{clear-bit, set-bit, flag-is, field-is}
 use Rattle.mmu.specs.Walk.{tableOk, leafOk, leafEntry}
 use Rattle.mmu.specs.Check.{permits, belowReserved, pageAddr}

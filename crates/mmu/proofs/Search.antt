@@ -1,8 +1,8 @@
 -- The search for a page's slot, as the loop makes it. Assumes nothing.
-use Prim.Native.Nat.{ℕ, suc, _+_, _≤_, _<_}
-use mathlib.Core.Path.{_≡_, refl, sym, _∙_}
-use mathlib.Core.Bool.{Bool, true, false, cond, _&&_}
-use mathlib.Core.List.{List, [], _∷_}
+use Prim.Native.Nat.{ℕ, _+_, _≤_, _<_}
+use mathlib.Core.Path.{_≡_, sym, _∙_}
+use mathlib.Core.Bool.{true, false}
+use mathlib.Core.List.{List}
 use native.Mathlib.Numerals.{add-one}
 use lib.ListN.{length, getD, drop, drop-of-length-le}
 use lib.Seq.{drop-cons}
@@ -18,15 +18,11 @@ module _ (z : Slot) (vpn : ℕ) (l : List TlbEntry) (i : ℕ) (p : z ≡ firstMa
   unfolding firstMatch
   none-left h = sym (p ∙ rw (drop-of-length-le l h))
 
-  pub match-here : i < length l → matches vpn (getD l i noEntry) ≡ true → At i ≡ z
-  unfolding firstMatch
-  match-here h e = sym (p ∙ rw (drop-cons l i noEntry h, e))
-
   pub found-here : i < length l → getD l i noEntry .valid ≡ true → getD l i noEntry .vpn ≡ vpn → At i ≡ z
   unfolding firstMatch matches
   found-here h v e = sym (p ∙ rw (drop-cons l i noEntry h, v, eq-eqb (getD l i noEntry .vpn) vpn e))
 
-  pub next : i < length l → matches vpn (getD l i noEntry) ≡ false → z ≡ firstMatch vpn (i + 1) (drop (i + 1) l)
+  next : i < length l → matches vpn (getD l i noEntry) ≡ false → z ≡ firstMatch vpn (i + 1) (drop (i + 1) l)
   unfolding firstMatch
   next h e = p ∙ rw (drop-cons l i noEntry h, e, add-one)
 

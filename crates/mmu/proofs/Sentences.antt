@@ -1,11 +1,9 @@
 -- Document 01's sentences on the MMU, and its figures, proved of the definitions. Assumes nothing.
 use mathlib.Core.Path.{refl}
 use borrow.Author.Tests.{lt-ltb, le-ltb}
-use Rattle.common.specs.Bits.{bitSet}
-use Rattle.mmu.specs.Exception.{causeOf}
 use Rattle.mmu.specs.Tlb.Laws.{dropped-at}
 use Rattle.mmu.specs.Vm.{filled}
-use Rattle.mmu.specs.Walk.{tableOk, leafOk, leafEntry}
+use Rattle.mmu.specs.Walk.{leafEntry}
 use Rattle.mmu.specs.Check.{byWalk, bySlot, checkWith, checkPage}
 use Rattle.mmu.specs.Check.Laws.{page-reads}
 use Rattle.mmu.specs.Check.Pages.{pages-reads}

@@ -4,6 +4,7 @@
 --   pageAddr p          == a page number made into an address; what passes 32 bits is dropped
 --   permits e k         == e has U and the access bit, and its physical page lies below 0xFFFF0000
 --   judged e k va       == allowed, or a protection page fault at va
+--   checked vm v n      == an answer of the check: the state, the verdict, and the words read
 --   checkWith vm k va w == the check of one page, given what a walk for va finds
 --   checkPage m vm k va == the check of one page, of which va is the first address that is wanted
 --   checkEach m k vm l  == the checks of the pages l, in order, each given by its fault address; the first that denies decides
@@ -16,8 +17,8 @@ use lib.ListN.{getD}
 use Rattle.common.specs.Bits.{bitSet}
 use Rattle.memory.specs.Memory.{Memory}
 use Rattle.mmu.specs.Exception.{accessBit}
-use Rattle.mmu.specs.Tlb.{noEntry, firstMatch}
-use Rattle.mmu.specs.Vm.{filled}
+use Rattle.mmu.specs.Tlb.{noEntry}
+use Rattle.mmu.specs.Vm.{filled, slotOf}
 use Rattle.mmu.specs.Walk.{walkOf}
 use Rattle.mmu.specs.declared.tlb.TlbEntry.{TlbEntry}
 use Rattle.mmu.specs.declared.tlb.Slot.{Slot}
@@ -50,32 +51,36 @@ faulted k protection va = Denied (PageFault k protection va)
 unfoldable pub judged : TlbEntry → Access → ℕ → Verdict
 judged e k va = cond (permits e k) Allowed (faulted k true va)
 
+-- an answer after n words read
+abbrev pub checked : Vm → Verdict → ℕ → Checked
+checked vm verdict n = record { vm = vm; verdict = verdict; reads = n }
+
 -- a page that is not resident, by what the walk found: a good leaf fills, even if it is then denied
 unfoldable pub byWalk : Vm → Access → ℕ → ℕ → Walked → Checked
-byWalk vm k va n (walked.Leaf e) = record { vm = filled vm e; verdict = judged e k va; reads = n }
-byWalk vm k va n walked.Missing = record { vm = vm; verdict = faulted k false va; reads = n }
-byWalk vm k va n walked.BusError = record { vm = vm; verdict = Denied BusError; reads = n }
+byWalk vm k va n (walked.Leaf e) = checked (filled vm e) (judged e k va) n
+byWalk vm k va n walked.Missing = checked vm (faulted k false va) n
+byWalk vm k va n walked.BusError = checked vm (Denied BusError) n
 
 -- by where the page is resident
 unfoldable pub bySlot : Vm → Access → ℕ → WalkAnswer → Slot → Checked
-bySlot vm k va w (At i) = record { vm = vm; verdict = judged (getD (vm .tlb) i noEntry) k va; reads = 0 }
+bySlot vm k va w (At i) = checked vm (judged (getD (vm .tlb) i noEntry) k va) 0
 bySlot vm k va w Nothing = byWalk vm k va (w .reads) (w .walked)
 
 unfoldable pub checkWith : Vm → Access → ℕ → WalkAnswer → Checked
 checkWith vm k va w =
-    cond (belowReserved (pageAddr (va / 4096))) (bySlot vm k va w (firstMatch (va / 4096) 0 (vm .tlb)))
-    (record { vm = vm; verdict = faulted k true va; reads = 0 })
+    cond (belowReserved (pageAddr (va / 4096))) (bySlot vm k va w (slotOf vm va))
+    (checked vm (faulted k true va) 0)
 
 unfoldable pub checkPage : Memory → Vm → Access → ℕ → Checked
 checkPage m vm k va = checkWith vm k va (walkOf m (vm .ptbr) va)
 
 -- the rest is checked only where this page is allowed; the reads add up
 unfoldable pub afterPage : Verdict → Checked → Checked → Checked
-afterPage Allowed page rest = record { vm = rest .vm; verdict = rest .verdict; reads = page .reads + rest .reads }
+afterPage Allowed page rest = checked (rest .vm) (rest .verdict) (page .reads + rest .reads)
 afterPage (Denied e) page rest = page
 
 unfoldable pub checkEach : Memory → Access → Vm → List ℕ → Checked
-checkEach m k vm [] = record { vm = vm; verdict = Allowed; reads = 0 }
+checkEach m k vm [] = checked vm Allowed 0
 checkEach m k vm (va ∷ l) =
     afterPage (checkPage m vm k va .verdict) (checkPage m vm k va) (checkEach m k (checkPage m vm k va .vm) l)
 

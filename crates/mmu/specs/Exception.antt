@@ -5,7 +5,7 @@
 --   causeOf e       == CAUSE: 0x80000000 + 65,536 x code + detail
 --   vectorOf e      == which vector word: illegal (also for privileged), syscall, else bus
 use Prim.Native.Nat.{ℕ, _+_, _*_}
-use mathlib.Core.Bool.{Bool, true, false, cond}
+use mathlib.Core.Bool.{cond}
 use Rattle.mmu.specs.declared.exception.Access.{Access}
 use Rattle.mmu.specs.declared.exception.Access.the-variants.{Read, Write, Fetch}
 use Rattle.mmu.specs.declared.exception.Exception.{Exception}

@@ -1,9 +1,8 @@
 pub mod Exception
 pub mod Tlb
 pub mod Vm
-pub mod Words
-pub mod FlushLent
 pub mod Walk
 pub mod Check
+pub mod Flat
 pub mod Opened
 pub mod Meaning

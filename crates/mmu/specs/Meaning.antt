@@ -1,43 +1,40 @@
 -- What the MMU's definitions mean: document 01's sentences on TLB, walk and page check as laws.
 --
---   slotOf vm i      == the entry at slot i
+--   entryIn vm i     == the entry in slot i
 --   Meaning          == the laws, one field a sentence
 --   Corners          == a figure, computed; those of document 01's corner table are in the crate `cases`
 use Prim.Native.Nat.{ℕ, _+_, _*_, _/_, _%_, _^_, _≤_, _<_}
 use mathlib.Core.Path.{_≡_}
-use mathlib.Core.Bool.{true, false}
+use mathlib.Core.Bool.{true}
 use mathlib.Core.List.{List}
 use lib.Dec.{eqb}
 use lib.ListN.{length, getD, set}
 use Rattle.memory.specs.Memory.{Memory}
-use Rattle.mmu.specs.Exception.{causeOf}
-use Rattle.mmu.specs.Tlb.{noEntry, firstMatch, droppedPage}
+use Rattle.mmu.specs.Tlb.{noEntry, droppedPage}
 use Rattle.mmu.specs.Tlb.Laws.{markDropped}
-use Rattle.mmu.specs.Vm.{victim, withTlb}
-use Rattle.mmu.specs.Walk.{tableOk, leafOk, leafEntry, walkOf}
-use Rattle.mmu.specs.Check.{pageAddr, faulted, judged, checkPage, checkEach}
+use Rattle.mmu.specs.Vm.{victim, withTlb, slotOf}
+use Rattle.mmu.specs.Walk.{leafEntry, walkOf}
+use Rattle.mmu.specs.Check.{pageAddr, checked, faulted, judged, checkPage, checkEach}
 use Rattle.mmu.specs.Opened.Laws.{TablesAgree, Passed}
 use Rattle.mmu.specs.declared.tlb.TlbEntry.{TlbEntry}
 use Rattle.mmu.specs.declared.tlb.Slot.the-variants.{At, Nothing}
 use Rattle.mmu.specs.declared.vm.Vm.{Vm}
 use Rattle.mmu.specs.declared.walk.Walked.the-variants.{Leaf}
 use Rattle.mmu.specs.declared.exception.Access.{Access}
-use Rattle.mmu.specs.declared.exception.Access.the-variants.{Write}
-use Rattle.mmu.specs.declared.exception.Exception.the-variants.{Syscall, PageFault}
 use Rattle.mmu.specs.declared.check.Verdict.the-variants.{Allowed}
 
-abbrev pub slotOf : Vm → ℕ → TlbEntry
-slotOf vm i = getD (vm .tlb) i noEntry
+abbrev pub entryIn : Vm → ℕ → TlbEntry
+entryIn vm i = getD (vm .tlb) i noEntry
 
 pub record Meaning : Type 0 where
   -- "A virtual page at or above 0xFFFF0000 is a protection page fault", before anything is looked up
   pub reserved : (m : Memory) (vm : Vm) (k : Access) (va : ℕ) → 0xFFFF_0000 ≤ pageAddr (va / 4096)
-      → checkPage m vm k va ≡ record { vm = vm; verdict = faulted k true va; reads = 0 }
+      → checkPage m vm k va ≡ checked vm (faulted k true va) 0
   -- "Else the first valid TLB match": it uses no walk read and leaves the state
-  pub resident : (m : Memory) (vm : Vm) (k : Access) (va i : ℕ) → pageAddr (va / 4096) < 0xFFFF_0000 → firstMatch (va / 4096) 0 (vm .tlb) ≡ At i
-      → checkPage m vm k va ≡ record { vm = vm; verdict = judged (slotOf vm i) k va; reads = 0 }
+  pub resident : (m : Memory) (vm : Vm) (k : Access) (va i : ℕ) → pageAddr (va / 4096) < 0xFFFF_0000 → slotOf vm va ≡ At i
+      → checkPage m vm k va ≡ checked vm (judged (entryIn vm i) k va) 0
   -- "A good leaf fills slot next_victim even if the access is then denied and even if another slot is free"
-  pub fills : (m : Memory) (vm : Vm) (k : Access) (va : ℕ) (e : TlbEntry) → pageAddr (va / 4096) < 0xFFFF_0000 → firstMatch (va / 4096) 0 (vm .tlb) ≡ Nothing
+  pub fills : (m : Memory) (vm : Vm) (k : Access) (va : ℕ) (e : TlbEntry) → pageAddr (va / 4096) < 0xFFFF_0000 → slotOf vm va ≡ Nothing
       → walkOf m (vm .ptbr) va .walked ≡ Leaf e
       → checkPage m vm k va .vm ≡ withTlb vm (set (vm .tlb) (victim vm) e) ((victim vm + 1) % 16)
   -- "Then U, the access bit and a physical page below 0xFFFF0000 are needed": of an allowed page the TLB then holds such an entry

@@ -6,7 +6,7 @@
 --   droppedPage vpn l     == the entries of page vpn without their valid mark, valid or not before
 --   noEntries             == sixteen entries of zeros
 use Prim.Native.Nat.{ℕ, suc}
-use mathlib.Core.Bool.{Bool, true, false, cond, _&&_}
+use mathlib.Core.Bool.{Bool, false, cond, _&&_}
 use mathlib.Core.List.{List, [], _∷_, map}
 use lib.Dec.{eqb}
 use lib.ListN.{replicate}

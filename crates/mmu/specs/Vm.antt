@@ -4,13 +4,17 @@
 --   filled vm e        == e in the victim's slot, "even if another slot is free"; next_victim advances modulo 16
 --   flushed vm         == all entries and next_victim zeroed; the registers stay
 --   invalidated vm va  == the page of address va dropped: TLBINV
+--   slotOf vm va       == the slot of the TLB that answers for va's page: the first valid match
+--   frameOf vm va      == the physical page that va's page leads to, 0 where it is not resident
 use Prim.Native.Nat.{ℕ, _+_, _/_, _%_}
 use mathlib.Core.Bool.{false}
 use mathlib.Core.List.{List}
-use lib.ListN.{set}
+use lib.ListN.{getD, set}
+use Rattle.mmu.specs.declared.tlb.Slot.{Slot}
+use Rattle.mmu.specs.declared.tlb.Slot.the-variants.{At, Nothing}
 use Rattle.mmu.specs.declared.tlb.TlbEntry.{TlbEntry}
 use Rattle.mmu.specs.declared.vm.Vm.{Vm}
-use Rattle.mmu.specs.Tlb.{noEntries, droppedPage}
+use Rattle.mmu.specs.Tlb.{noEntry, noEntries, firstMatch, droppedPage}
 pub mod Laws
 
 -- the same registers with another TLB
@@ -32,3 +36,15 @@ flushed vm = withTlb vm noEntries 0
 
 unfoldable pub invalidated : Vm → ℕ → Vm
 invalidated vm va = withTlb vm (droppedPage (va / 4096) (vm .tlb)) (vm .«next_victim»)
+
+-- "the first valid TLB match"
+abbrev pub slotOf : Vm → ℕ → Slot
+slotOf vm va = firstMatch (va / 4096) 0 (vm .tlb)
+
+-- the physical page of a slot
+abbrev pub slotFrame : List TlbEntry → Slot → ℕ
+slotFrame l (At i) = getD l i noEntry .ppn
+slotFrame l Nothing = 0
+
+unfoldable pub frameOf : Vm → ℕ → ℕ
+frameOf vm va = slotFrame (vm .tlb) (slotOf vm va)

@@ -1,7 +1,7 @@
 // The check of a user's access, page by page.
 ghost use mathlib.Core.Path.{_≡_};
 ghost use Rattle.memory.specs.Memory.{lent};
-ghost use Rattle.mmu.specs.Check.{permits, faulted, judged, bySlot, checkPage, checkEach, pagesOf};
+ghost use Rattle.mmu.specs.Check.{permits, checked, faulted, judged, bySlot, checkPage, checkEach, pagesOf};
 ghost use Rattle.mmu.specs.Walk.{walkOf};
 use crate::exception::Access;
 use crate::exception::Exception;
@@ -25,6 +25,12 @@ pub struct Checked {
     pub vm: Vm,
     pub verdict: Verdict,
     pub reads: u32,
+}
+
+fn found(vm: Vm, verdict: Verdict, reads: u32) -> Checked
+    ensures { λ r. ⌜ r ≡ checked vm verdict reads ⌝ }
+{
+    Checked { vm, verdict, reads }
 }
 
 fn grants(entry: TlbEntry, access: Access) -> bool
@@ -67,21 +73,13 @@ impl Vm {
     {
         let page = va >> 12;
         if page << 12 >= CPU_RESERVED_BASE {
-            return Checked {
-                vm: self,
-                verdict: fault(access, true, va),
-                reads: 0,
-            };
+            return found(self, fault(access, true, va), 0);
         }
         let slot = self.lookup(page);
         match slot {
             Slot::At(i) => {
                 let entry = self.tlb[i];
-                Checked {
-                    vm: self,
-                    verdict: judge(entry, access, va),
-                    reads: 0,
-                }
+                found(self, judge(entry, access, va), 0)
             }
             Slot::Nothing => self.check_walk(mem, base, va, access),
         }
@@ -96,22 +94,10 @@ impl Vm {
         match walked {
             Walked::Leaf(entry) => {
                 let filled = self.fill(entry);
-                Checked {
-                    vm: filled,
-                    verdict: judge(entry, access, va),
-                    reads: answer.reads,
-                }
+                found(filled, judge(entry, access, va), answer.reads)
             }
-            Walked::Missing => Checked {
-                vm: self,
-                verdict: fault(access, false, va),
-                reads: answer.reads,
-            },
-            Walked::BusError => Checked {
-                vm: self,
-                verdict: Verdict::Denied(Exception::BusError),
-                reads: answer.reads,
-            },
+            Walked::Missing => found(self, fault(access, false, va), answer.reads),
+            Walked::BusError => found(self, Verdict::Denied(Exception::BusError), answer.reads),
         }
     }
 
@@ -124,24 +110,23 @@ impl Vm {
         let mut va = addr;
         let mut vm = self;
         let mut reads: u32 = 0;
-        let verdict = loop {
+        loop {
             let checked = vm.check_page(mem, base, va, access);
             let after = checked.vm;
             vm = after;
             reads += checked.reads;
             let here = checked.verdict;
             if let Verdict::Denied(e) = here {
-                break Verdict::Denied(e);
+                break found(vm, Verdict::Denied(e), reads);
             }
             if page == last {
-                break Verdict::Allowed;
+                break found(vm, Verdict::Allowed, reads);
             }
             if std::num::wrapping_add_u32(page, 1) == 0 {
-                break Verdict::Allowed;
+                break found(vm, Verdict::Allowed, reads);
             }
             page += 1;
             va = page << 12;
-        };
-        Checked { vm, verdict, reads }
+        }
     }
 }

@@ -1,15 +1,15 @@
 // The MMU: TLB, table walk and page check, from the lower half of src/cpu_privilege.rs.
 //
-// The bus behind a walk is lent memory: a slice and a physical base. The state goes in by value and comes back by value.
+// The bus behind a walk is lent memory: a slice and a physical base. The state goes in by value and comes back by value; in `flat` it is words that an
+// owner lends.
 ghost use Rattle.mmu.specs.Meaning.{Meaning, Corners};
 
 pub mod check;
 pub mod exception;
-pub mod flush_lent;
+pub mod flat;
 pub mod tlb;
 pub mod vm;
 pub mod walk;
-pub mod words;
 
 // What the contracts mean: document 01's sentences on the MMU.
 pub fn meaning()

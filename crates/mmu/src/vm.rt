@@ -1,7 +1,7 @@
 // Extension V's state: control registers and the TLB.
 ghost use mathlib.Core.Path.{_≡_};
 ghost use Rattle.mmu.specs.Tlb.{firstMatch};
-ghost use Rattle.mmu.specs.Vm.{newVm, filled, flushed, invalidated};
+ghost use Rattle.mmu.specs.Vm.{newVm, filled, flushed, invalidated, frameOf};
 use crate::tlb;
 use crate::tlb::Slot;
 use crate::tlb::TLB_ENTRIES;
@@ -55,6 +55,17 @@ impl Vm {
     {
         let entries = self.tlb;
         tlb::lookup(entries, vpn)
+    }
+
+    // The page number that a resident page leads to, 0 where none is.
+    pub fn frame_of(self, va: u32) -> u32
+        ensures { λ r. ⌜ r ≡ frameOf self va ⌝ }
+    {
+        let slot = self.lookup(va >> 12);
+        match slot {
+            Slot::At(i) => self.tlb[i].ppn,
+            Slot::Nothing => 0,
+        }
     }
 
     // The victim's slot is taken even where another is free.

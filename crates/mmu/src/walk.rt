@@ -1,7 +1,7 @@
 // The hardware's table walk: two levels of big-endian words in lent memory.
 ghost use mathlib.Core.Path.{_≡_};
 ghost use Rattle.memory.specs.Memory.{lent, readAt, wordSpots};
-ghost use Rattle.mmu.specs.Walk.{tableOk, leafOk, leafEntry, spot2, walkLeaf, walkOf};
+ghost use Rattle.mmu.specs.Walk.{tableOk, leafOk, leafEntry, spot2, answered, walkLeaf, walkOf};
 use crate::tlb::TlbEntry;
 use memory::Content;
 use memory::read_word;
@@ -36,6 +36,12 @@ pub struct WalkAnswer {
     pub walked: Walked,
     // Words read, one that could not be read included.
     pub reads: u32,
+}
+
+fn answered(walked: Walked, reads: u32) -> WalkAnswer
+    ensures { λ r. ⌜ r ≡ answered walked reads ⌝ }
+{
+    WalkAnswer { walked, reads }
 }
 
 // A level-1 word that names a table.
@@ -86,18 +92,12 @@ pub fn walk(mem: &[u8], base: u32, ptbr: u32, va: u32) -> WalkAnswer
 {
     let first = read_word(mem, base, ptbr / PAGE_SIZE * PAGE_SIZE + (va >> 22) * 4);
     let Content::Value(l1) = first else {
-        return WalkAnswer {
-            walked: Walked::BusError,
-            reads: 1,
-        };
+        return answered(Walked::BusError, 1);
     };
     if table_ok(l1) {
         walk_leaf(mem, base, l1, va)
     } else {
-        WalkAnswer {
-            walked: Walked::Missing,
-            reads: 1,
-        }
+        answered(Walked::Missing, 1)
     }
 }
 
@@ -111,20 +111,11 @@ fn walk_leaf(mem: &[u8], base: u32, l1: u32, va: u32) -> WalkAnswer
         l1 / PAGE_SIZE * PAGE_SIZE + (va >> 12) % 1024 * 4,
     );
     let Content::Value(l2) = second else {
-        return WalkAnswer {
-            walked: Walked::BusError,
-            reads: 2,
-        };
+        return answered(Walked::BusError, 2);
     };
     if leaf_ok(l2) {
-        WalkAnswer {
-            walked: Walked::Leaf(leaf_entry(va, l2)),
-            reads: 2,
-        }
+        answered(Walked::Leaf(leaf_entry(va, l2)), 2)
     } else {
-        WalkAnswer {
-            walked: Walked::Missing,
-            reads: 2,
-        }
+        answered(Walked::Missing, 2)
     }
 }

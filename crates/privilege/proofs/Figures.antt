@@ -1,18 +1,13 @@
 -- The figures, by computing. Assumes nothing.
-use mathlib.Core.Path.{refl, ap}
+use mathlib.Core.Path.{refl}
 use Rattle.common.specs.Bits.{bitSet}
-use Rattle.common.specs.Refusal.{refusalNumber}
-use Rattle.mmu.specs.Exception.{causeOf}
-use Rattle.mmu.specs.declared.vm.Vm.{Vm}
 use Rattle.privilege.specs.Access.{fetchSize, dataSize, legalSize, allowsOf}
 use Rattle.privilege.specs.Addresses.{stepped}
 use Rattle.privilege.specs.Corners.{Corners}
-use Rattle.mmu.specs.Vm.Laws.{flushed-is}
 use Rattle.privilege.specs.Region.{grantsOf, someGrants, allAllowed, fieldOf, withField}
-use Rattle.privilege.specs.Registers.{regionField, srRead, srWritten, vmPtbr}
+use Rattle.privilege.specs.Registers.{regionField, srRead, srWritten}
 use Rattle.privilege.specs.State.{noRegions, statusOf, statusSet}
 use Rattle.privilege.specs.Trap.{trapped, returned}
-use Rattle.privilege.specs.declared.registers.SrRead.the-variants.{Value}
 
 pub corners-hold : Corners
 unfolding bitSet fetchSize dataSize legalSize allowsOf stepped grantsOf someGrants allAllowed fieldOf withField regionField srRead srWritten noRegions statusOf statusSet trapped returned

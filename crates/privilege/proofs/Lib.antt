@@ -1,14 +1,10 @@
 pub mod States
 pub mod Traps
-pub mod TrapsLent
 pub mod Regions
-pub mod RegionsLent
 pub mod Numbers
-pub mod NumbersLent
 pub mod Checks
-pub mod ChecksLent
 pub mod Transfers
-pub mod Runs
+pub mod Places
 pub mod Views
 pub mod Figures
 pub mod Listed

@@ -1,44 +1,31 @@
 -- The ways through data access. Assumes nothing.
 use Prim.Native.Nat.{ℕ, zero, suc, _+_, _-_, _*_, _/_, _%_, _^_, _≤_, _<_}
-use mathlib.Core.Path.{_≡_, refl, sym, ap, _∙_}
-use mathlib.Core.Bool.{Bool, true, false, _&&_, and-true, and-assoc}
+use mathlib.Core.Path.{_≡_, refl, sym, _∙_}
+use mathlib.Core.Bool.{Bool, true, false, cond, _&&_, and-true, and-assoc}
 use mathlib.Core.List.{List, _∷_}
 use native.Mathlib.Decide.{ℕ-discrete}
 use native.Mathlib.Nat.{pow-suc}
 use native.Mathlib.Numerals.{add-one}
 use native.Mathlib.Omega.{arith}
 use lib.Bits.{bitAnd, bitOr, and-mask, or-shifted}
-use lib.ListN.{getD}
 use Rattle.common.specs.Bytes.{bytesOf}
 use Rattle.common.specs.Cases.{absurd-eq}
 use Rattle.common.specs.declared.Refusal.the-variants.{Size, Map}
 use Rattle.memory.specs.Memory.{Memory, lent, inside, byteAt, readAt, wordSpots, putByte, putAt, allInside}
-use Rattle.memory.specs.Memory.Laws.{lent-put, put-base, put-map, all-inside-same}
+use Rattle.memory.specs.Memory.Laws.{lent-put, put-map, all-inside-same}
 use Rattle.memory.specs.declared.Content.{Content}
 use Rattle.memory.specs.declared.Content.the-variants.{Value, Outside}
-use Rattle.mmu.specs.Tlb.{noEntry, firstMatch}
-use Rattle.mmu.specs.declared.tlb.Slot.{Slot}
-use Rattle.mmu.specs.declared.tlb.Slot.the-variants.{At, Nothing}
-use Rattle.mmu.specs.declared.vm.Vm.{Vm}
+use Rattle.mmu.specs.Vm.{frameOf}
 use Rattle.memory.specs.Memory.Bytewise.{readOn, read-none, read-value, read-outside, put-none, put-next, inside-none, inside-next}
 use Rattle.privilege.specs.Access.{dataSize, mapGood, translatingOf}
-use Rattle.privilege.specs.Transfer.{frameOf, joinedTo, physicalOf, spots, readOf, loadAt, storeAt, memoryAt, dataRead, dataWritten, memoryAfter}
+use Rattle.privilege.specs.Transfer.{joinedTo, physicalOf, spots, readOf, loadAt, storeAt, memoryAt}
 use Rattle.privilege.specs.Transfer.Laws.{spots-none, spots-next, word-spots}
 use Rattle.privilege.specs.declared.state.SystemState.{SystemState}
 use Rattle.privilege.specs.declared.transfer.DataRead.{DataRead}
 use Rattle.privilege.specs.declared.transfer.DataRead.the-variants as read
+use Rattle.privilege.specs.declared.transfer.DataWritten.{DataWritten}
 use Rattle.privilege.specs.declared.transfer.DataWritten.the-variants as written
 use Rattle.privilege.proofs.Checks.{size-none}
-
--- the frame, where the search answered p
-module _ (vm : Vm) (va : ℕ) (p : Slot) (is : p ≡ firstMatch (va / 4096) 0 (vm .tlb)) where
-  pub resident-frame : (i : ℕ) → p ≡ At i → getD (vm .tlb) i noEntry .ppn ≡ frameOf vm va
-  unfolding frameOf
-  resident-frame i e = rw (← is, e)
-
-  pub no-frame : p ≡ Nothing → 0 ≡ frameOf vm va
-  unfolding frameOf
-  no-frame e = rw (← is, e)
 
 -- a physical page and the place in it: `(ppn << 12) | (va & 4095)`
 pub joined-is : (p v : ℕ) → bitOr (p * 4096 % 2 ^ 32) (bitAnd v 4095) ≡ joinedTo p v
@@ -111,54 +98,56 @@ data-small n r e t = sizes (ℕ-discrete n 1) (ℕ-discrete n 2) (ℕ-discrete n
     sizes (no a) (no b) (yes d) h = omega arith
     sizes (no a) (no b) (no d) h = absurd-eq (let z : false ≡ true = sym (size-none n a b d) ∙ h in cc)
 
--- `read_data` and `write_data`
-module _ (m : Memory) (s : SystemState) (va n : ℕ) (good : Bool) (is : good ≡ mapGood m) where
-  pub read-bad-map : good ≡ false → read.Refused Map ≡ dataRead m s va n
+-- loads and stores from any addresses: the refusals come first
+module _ (m : Memory) (n : ℕ) (l : List ℕ) (good : Bool) (is : good ≡ mapGood m) where
+  pub read-bad-map : good ≡ false → read.Refused Map ≡ loadAt m n l
   unfolding loadAt
   read-bad-map h = rw (← is, h)
 
-  pub write-bad-map : good ≡ false → written.Refused Map ≡ dataWritten m s va n
+  pub write-bad-map : good ≡ false → written.Refused Map ≡ storeAt m n l
   unfolding storeAt
   write-bad-map h = rw (← is, h)
 
   module _ (legal : Bool) (size : legal ≡ dataSize n) (ok : good ≡ true) where
-    pub read-bad-size : legal ≡ false → read.Refused Size ≡ dataRead m s va n
+    pub read-bad-size : legal ≡ false → read.Refused Size ≡ loadAt m n l
     unfolding loadAt
     read-bad-size h = rw (← is, ok, ← size, h)
 
-    pub write-bad-size : legal ≡ false → written.Refused Size ≡ dataWritten m s va n
+    pub write-bad-size : legal ≡ false → written.Refused Size ≡ storeAt m n l
     unfolding storeAt
     write-bad-size h = rw (← is, ok, ← size, h)
 
-    pub read-good : (c : Content) (r : DataRead) → legal ≡ true → c ≡ readAt m (spots s va n) → r ≡ readOf c → r ≡ dataRead m s va n
+    pub read-good : (c : Content) (r : DataRead) → legal ≡ true → c ≡ readAt m l → r ≡ readOf c → r ≡ loadAt m n l
     unfolding loadAt
     read-good c r h e q = q ∙ rw (← is, ok, ← size, h, e)
 
-    pub write-done : (all : Bool) → legal ≡ true → all ≡ allInside m (spots s va n) → all ≡ true → written.Done ≡ dataWritten m s va n
+    pub write-good : (all : Bool) (r : DataWritten) → legal ≡ true → all ≡ allInside m l → r ≡ cond all written.Done written.BusError → r ≡ storeAt m n l
     unfolding storeAt
-    write-done all h e t = rw (← is, ok, ← size, h, ← e, t)
+    write-good all r h e q = q ∙ rw (← is, ok, ← size, h, e)
 
-    pub write-failed : (all : Bool) → legal ≡ true → all ≡ allInside m (spots s va n) → all ≡ false → written.BusError ≡ dataWritten m s va n
-    unfolding storeAt
-    write-failed all h e t = rw (← is, ok, ← size, h, ← e, t)
+    pub write-done : (all : Bool) → legal ≡ true → all ≡ allInside m l → all ≡ true → written.Done ≡ storeAt m n l
+    write-done all h e t = write-good all written.Done h e (rw t)
 
-    pub memory-written : (v : ℕ) (l : List ℕ) → legal ≡ true → l ≡ putAt m (spots s va n) (bytesOf n v) .bytes → l ≡ memoryAfter m s va n v .bytes
+    pub write-failed : (all : Bool) → legal ≡ true → all ≡ allInside m l → all ≡ false → written.BusError ≡ storeAt m n l
+    write-failed all h e t = write-good all written.BusError h e (rw t)
+
+    pub memory-written : (v : ℕ) (bs : List ℕ) → legal ≡ true → bs ≡ putAt m l (bytesOf n v) .bytes → bs ≡ memoryAt m n l v .bytes
     unfolding memoryAt
-    memory-written v l h q = q ∙ rw (← is, ok, ← size, h)
+    memory-written v bs h q = q ∙ rw (← is, ok, ← size, h)
 
 -- a refused store leaves the memory
-module _ (base : ℕ) (l : List ℕ) (s : SystemState) (va n v : ℕ) (good : Bool) (is : good ≡ mapGood (lent base l)) where
-  pub kept-bad-map : good ≡ false → l ≡ memoryAfter (lent base l) s va n v .bytes
+module _ (base : ℕ) (bs : List ℕ) (n : ℕ) (l : List ℕ) (v : ℕ) (good : Bool) (is : good ≡ mapGood (lent base bs)) where
+  pub kept-bad-map : good ≡ false → bs ≡ memoryAt (lent base bs) n l v .bytes
   unfolding memoryAt
   kept-bad-map h = rw (← is, h)
 
-  pub kept-bad-size : (legal : Bool) → good ≡ true → legal ≡ dataSize n → legal ≡ false → l ≡ memoryAfter (lent base l) s va n v .bytes
+  pub kept-bad-size : (legal : Bool) → good ≡ true → legal ≡ dataSize n → legal ≡ false → bs ≡ memoryAt (lent base bs) n l v .bytes
   unfolding memoryAt
   kept-bad-size legal g size h = rw (← is, g, ← size, h)
 
 -- ---- stores: the loop, with n bytes of v left from address a on
 
-bytes-next : (n v : ℕ) → bytesOf (suc n) v ≡ v / 256 ^ n % 256 ∷ bytesOf n v
+pub bytes-next : (n v : ℕ) → bytesOf (suc n) v ≡ v / 256 ^ n % 256 ∷ bytesOf n v
 unfolding bytesOf
 bytes-next n v = refl
 

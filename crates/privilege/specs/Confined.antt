@@ -5,23 +5,23 @@
 --   tables-check      == a check depends on the map and on the bytes of the page tables alone
 --   check-refills     == a check keeps all but the TLB
 --   aligned-open      == the bytes of an allowed aligned access lie in a page that is open to users for it
-use Prim.Native.Nat.{ℕ, zero, suc, _+_, _*_, _/_, _%_, _^_, _≤_, _<_}
+use Prim.Native.Nat.{ℕ, zero, suc, _+_, _/_, _%_, _^_, _≤_, _<_}
 use mathlib.Core.Path.{_≡_, refl, sym, ap, _∙_}
-use mathlib.Core.Bool.{Bool, true, false, cond, _&&_, _||_, not}
-use mathlib.Core.List.{List, [], _∷_, map}
-use mathlib.Core.Logic.{_⊎_, inl, inr, ⊎-elim, _≢_}
+use mathlib.Core.Bool.{Bool, true, false, cond, _||_}
+use mathlib.Core.List.{[], _∷_, map}
+use mathlib.Core.Logic.{_⊎_, inl, inr, ⊎-elim}
 use native.Mathlib.Omega.{arith}
 use lib.Dec.{eqb}
 use lib.ListN.{length, getD}
 use borrow.Author.Tests.{eqb-true}
 use Rattle.common.specs.Cases.{absurd-eq, cond-holds, cond-case}
 use Rattle.common.specs.Lists.{Each, each-map}
-use Rattle.common.specs.declared.Refusal.{Refusal}
 use Rattle.memory.specs.Memory.{Memory}
 use Rattle.memory.specs.Memory.Laws.{SameMap}
-use Rattle.mmu.specs.Check.{pageAddr, checkPage, checkEach, pagesOf}
-use Rattle.mmu.specs.Opened.{frameOf as entryFrame, Usable, Opened, opened}
-use Rattle.mmu.specs.Opened.Laws.{TablesAgree, Refilled, kept, Passed, passed, each-same, each-one, refilled-each, refilled-page, refilled-enabled, pages-small, pages-one}
+use Rattle.mmu.specs.Check.{checkPage, checkEach, pagesOf}
+use Rattle.mmu.specs.Vm.{frameOf}
+use Rattle.mmu.specs.Opened.{frameOf as entryFrame, Opened, opened}
+use Rattle.mmu.specs.Opened.Laws.{TablesAgree, Refilled, kept, passed, each-same, each-one, refilled-each, refilled-page, refilled-enabled, pages-small, pages-one}
 use Rattle.mmu.specs.Tlb.{noEntry, firstMatch}
 use Rattle.mmu.specs.declared.check.Checked.{Checked}
 use Rattle.mmu.specs.declared.check.Verdict.{Verdict}
@@ -29,15 +29,13 @@ use Rattle.mmu.specs.declared.check.Verdict.the-variants as verdict
 use Rattle.mmu.specs.declared.exception.Access.{Access}
 use Rattle.mmu.specs.declared.exception.Access.the-variants.{Read, Write, Fetch}
 use Rattle.mmu.specs.declared.tlb.Slot.the-variants.{At}
-use Rattle.mmu.specs.declared.vm.Vm.{Vm}
-use Rattle.privilege.specs.Access.{fetchSize, dataSize, legalSize, mapGood, translatingOf, permissionOf, accessAnswered, fromPages, byRegions, checkLegal, checkAccess}
+use Rattle.privilege.specs.Access.{fetchSize, dataSize, legalSize, mapGood, translatingOf, permissionOf, fromPages, byRegions, checkLegal, checkAccess}
 use Rattle.privilege.specs.Access.Laws.{good-same}
 use Rattle.privilege.specs.Addresses.{stepped}
 use Rattle.privilege.specs.State.{withVm}
-use Rattle.privilege.specs.Transfer.{slotFrame, frameOf, joinedTo, physicalOf, spots}
+use Rattle.privilege.specs.Transfer.{physicalOf, spots}
 use Rattle.privilege.specs.declared.check.AccessChecked.{AccessChecked}
-use Rattle.privilege.specs.declared.check.Permission.{Permission}
-use Rattle.privilege.specs.declared.check.Permission.the-variants.{Allowed, Denied, Refused}
+use Rattle.privilege.specs.declared.check.Permission.the-variants.{Allowed, Denied}
 use Rattle.privilege.specs.declared.state.SystemState.{SystemState}
 
 pub record Running (s : SystemState) : Type 0 where

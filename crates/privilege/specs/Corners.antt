@@ -8,18 +8,15 @@ use mathlib.Core.Path.{_≡_}
 use mathlib.Core.Bool.{true, false, cond}
 use mathlib.Core.List.{List, [], _∷_}
 use lib.ListN.{replicate, set}
-use Rattle.common.specs.Refusal.{refusalNumber}
 use Rattle.common.specs.declared.Refusal.the-variants.{Register}
-use Rattle.mmu.specs.Exception.{causeOf}
 use Rattle.mmu.specs.declared.exception.Access.the-variants.{Read, Write, Fetch}
-use Rattle.mmu.specs.declared.exception.Exception.the-variants.{Syscall, PageFault}
 use Rattle.privilege.specs.Access.{legalSize, allowsOf}
 use Rattle.privilege.specs.Meaning.{known}
 use Rattle.privilege.specs.Registers.{srRead, srWritten}
-use Rattle.privilege.specs.State.{newState, noRegions, statusOf, statusSet, withStatus, withUser, withRegions}
+use Rattle.privilege.specs.State.{newState, noRegions, statusOf, statusSet, withUser, withRegions}
 use Rattle.privilege.specs.Transfer.{joinedTo}
 use Rattle.privilege.specs.Trap.{trapped, returned}
-use Rattle.privilege.specs.declared.state.InstructionMode.the-variants.{Normal, Short}
+use Rattle.privilege.specs.declared.state.InstructionMode.the-variants.{Short}
 use Rattle.privilege.specs.declared.state.SystemState.{SystemState}
 use Rattle.privilege.specs.declared.registers.SrRead.{SrRead}
 use Rattle.privilege.specs.declared.registers.SrRead.the-variants.{Value, Refused}

@@ -1,12 +1,10 @@
 pub mod Addresses
 pub mod State
 pub mod Trap
-pub mod Lent
-pub mod Run
+pub mod Rows
+pub mod Flat
 pub mod Region
-pub mod RegionWords
 pub mod Registers
-pub mod RegistersLent
 pub mod Access
 pub mod Transfer
 pub mod Debug

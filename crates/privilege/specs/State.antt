@@ -52,10 +52,11 @@ newState =
 abbrev pub bitIf : Bool → ℕ → ℕ
 bitIf on bit = cond on bit 0
 
+abbrev pub statusBits : Bool → Bool → Bool → Bool → Bool → ℕ
+statusBits ie pie user pu short = bitOr (bitOr (bitOr (bitOr (bitIf ie 1) (bitIf pie 2)) (bitIf user 4)) (bitIf pu 8)) (bitIf short 16)
+
 unfoldable pub statusOf : SystemState → ℕ
-statusOf s =
-    bitOr (bitOr (bitOr (bitOr (bitIf (s .ie) 1) (bitIf (s .pie) 2)) (bitIf (s .user) 4)) (bitIf (s .pu) 8))
-    (bitIf (isShort (s .psm)) 16)
+statusOf s = statusBits (s .ie) (s .pie) (s .user) (s .pu) (isShort (s .psm))
 
 -- ---- the same state with a part changed
 

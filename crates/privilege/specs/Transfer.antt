@@ -1,6 +1,5 @@
 -- Data access: document 01, 'Access and translation'; `physical`, `read_data` and `write_data` of cpu_privilege.rs.
 --
---   frameOf vm va       == the physical page that a resident page leads to, 0 where none is resident
 --   joinedTo ppn va     == va's byte in a physical page; what passes 32 bits is dropped
 --   physicalOf s va     == the physical address of a byte, looked up in the TLB again: `physical`
 --   spots s va n        == the physical addresses of an access's bytes, each looked up again
@@ -10,21 +9,16 @@
 --
 -- `spots` is the one place where an access's addresses come from; loads and stores are over any list of addresses. A word
 -- inside a page is one lookup in the Rust and in the code; here every byte is looked up, and the two are proved equal.
-use Prim.Native.Nat.{ℕ, _+_, _/_, _%_}
+use Prim.Native.Nat.{ℕ, _+_, _%_}
 use mathlib.Core.Bool.{cond}
 use mathlib.Core.List.{List, map}
-use lib.ListN.{getD}
 use Rattle.common.specs.Bytes.{bytesOf}
 use Rattle.common.specs.declared.Refusal.{Refusal}
 use Rattle.memory.specs.Memory.{Memory, readAt, putAt, allInside}
 use Rattle.memory.specs.declared.Content.{Content}
 use Rattle.memory.specs.declared.Content.the-variants as content
 use Rattle.mmu.specs.Check.{pageAddr}
-use Rattle.mmu.specs.Tlb.{noEntry, firstMatch}
-use Rattle.mmu.specs.declared.tlb.Slot.{Slot}
-use Rattle.mmu.specs.declared.tlb.Slot.the-variants.{At, Nothing}
-use Rattle.mmu.specs.declared.tlb.TlbEntry.{TlbEntry}
-use Rattle.mmu.specs.declared.vm.Vm.{Vm}
+use Rattle.mmu.specs.Vm.{frameOf}
 use Rattle.privilege.specs.Access.{dataSize, gated, mapGood, translatingOf}
 use Rattle.privilege.specs.Addresses.{stepped}
 use Rattle.privilege.specs.declared.state.SystemState.{SystemState}
@@ -33,14 +27,6 @@ use Rattle.privilege.specs.declared.transfer.DataRead.the-variants as re
 use Rattle.privilege.specs.declared.transfer.DataWritten.{DataWritten}
 use Rattle.privilege.specs.declared.transfer.DataWritten.the-variants as written
 pub mod Laws
-
--- the physical page of a slot
-abbrev pub slotFrame : List TlbEntry → Slot → ℕ
-slotFrame l (At i) = getD l i noEntry .ppn
-slotFrame l Nothing = 0
-
-unfoldable pub frameOf : Vm → ℕ → ℕ
-frameOf vm va = slotFrame (vm .tlb) (firstMatch (va / 4096) 0 (vm .tlb))
 
 abbrev pub joinedTo : ℕ → ℕ → ℕ
 joinedTo ppn va = pageAddr ppn + va % 4096

@@ -2,8 +2,7 @@
 ghost use mathlib.Core.Path.{_≡_};
 ghost use Rattle.privilege.specs.Addresses.{stepped};
 ghost use Rattle.privilege.specs.Region.{grantsOf, allAllowed, fieldOf, withField, fieldWritten};
-use crate::region_words::all_allowed_in;
-use crate::region_words::put_regions;
+use crate::flat::regions::put_regions;
 use mmu::exception::Access;
 use mmu::exception::region_bit;
 
@@ -80,5 +79,5 @@ pub fn all_allowed(regions: [Region; 8], addr: u32, len: u32, access: Access) ->
 {
     let mut words = [0u32; 24];
     put_regions(&mut words, regions);
-    all_allowed_in(&words, addr, len, access)
+    crate::flat::regions::all_allowed(&words, addr, len, access)
 }

@@ -1,6 +1,6 @@
 // The privilege state and its STATUS word.
 ghost use mathlib.Core.Path.{_≡_};
-ghost use Rattle.privilege.specs.State.{isShort, newState, withStatus, statusOf, statusSet, modeOf, bitIf};
+ghost use Rattle.privilege.specs.State.{isShort, newState, withStatus, statusBits, statusOf, statusSet, modeOf, bitIf};
 use crate::region::Region;
 use mmu::vm::Vm;
 
@@ -65,6 +65,17 @@ pub(crate) fn bit_if(on: bool, bit: u32) -> u32
     if on { bit } else { 0 }
 }
 
+// The word STATUS of its bits.
+pub(crate) fn status_word(ie: bool, pie: bool, user: bool, pu: bool, short: bool) -> u32
+    ensures { λ r. ⌜ r ≡ statusBits ie pie user pu short ⌝ }
+{
+    bit_if(ie, STATUS_IE)
+        | bit_if(pie, STATUS_PIE)
+        | bit_if(user, STATUS_U)
+        | bit_if(pu, STATUS_PU)
+        | bit_if(short, STATUS_PSM)
+}
+
 impl SystemState {
     pub fn new() -> Self
         ensures { λ r. ⌜ r ≡ newState ⌝ }
@@ -93,11 +104,7 @@ impl SystemState {
         ensures { λ r. ⌜ r ≡ statusOf self ⌝ }
     {
         let psm = self.psm;
-        bit_if(self.ie, STATUS_IE)
-            | bit_if(self.pie, STATUS_PIE)
-            | bit_if(self.user, STATUS_U)
-            | bit_if(self.pu, STATUS_PU)
-            | bit_if(is_short(psm), STATUS_PSM)
+        status_word(self.ie, self.pie, self.user, self.pu, is_short(psm))
     }
 
     // The same state with other STATUS bits.

@@ -4,7 +4,7 @@ ghost use mathlib.Core.Bool.{_&&_};
 ghost use Prim.Native.Nat.{_≤_, _<_, _%_, _/_, _^_};
 ghost use Rattle.common.specs.Bytes.{bytesOf};
 ghost use Rattle.memory.specs.Memory.{lent, readAt, putAt, allInside};
-ghost use Rattle.privilege.specs.Transfer.{frameOf, joinedTo, physicalOf, spots, dataRead, dataWritten, memoryAfter, readOf};
+ghost use Rattle.privilege.specs.Transfer.{joinedTo, physicalOf, spots, dataRead, dataWritten, memoryAfter, readOf};
 use crate::check::data_size;
 use crate::state::PAGE_SIZE;
 use crate::state::SystemState;
@@ -14,8 +14,6 @@ use memory::good_map;
 use memory::put_byte;
 use memory::read_byte;
 use memory::read_word;
-use mmu::tlb::Slot;
-use mmu::vm::Vm;
 
 pub enum DataRead {
     Value(u32),
@@ -29,17 +27,6 @@ pub enum DataWritten {
     Refused(Refusal),
 }
 
-// The page number that a resident page leads to, 0 where none is.
-pub(crate) fn frame_of(vm: Vm, va: u32) -> u32
-    ensures { λ r. ⌜ r ≡ frameOf vm va ⌝ }
-{
-    let slot = vm.lookup(va >> 12);
-    match slot {
-        Slot::At(i) => vm.tlb[i].ppn,
-        Slot::Nothing => 0,
-    }
-}
-
 // The address of `va`'s byte in a physical page.
 pub fn join(ppn: u32, va: u32) -> u32
     ensures { λ r. ⌜ r ≡ joinedTo ppn va ⌝ }
@@ -48,14 +35,14 @@ pub fn join(ppn: u32, va: u32) -> u32
 }
 
 // Byte `place` of a value, counted from the lowest.
-fn byte_of(value: u32, place: u32) -> u8
+pub(crate) fn byte_of(value: u32, place: u32) -> u8
     requires { ⌜ place < 4 ⌝ }
     ensures { λ r. ⌜ r ≡ value / 256 ^ place % 256 ⌝ }
 {
     ((value >> (8 * place)) % 256) as u8
 }
 
-fn and(a: bool, b: bool) -> bool
+pub(crate) fn and(a: bool, b: bool) -> bool
     ensures { λ r. ⌜ r ≡ a && b ⌝ }
 {
     if a { b } else { false }
@@ -77,7 +64,7 @@ impl SystemState {
     {
         if self.translating() {
             let vm = self.vm;
-            return join(frame_of(vm, va), va);
+            return join(vm.frame_of(va), va);
         }
         va
     }

@@ -8,7 +8,7 @@ use lib.ListN.{length}
 use borrow.Author.Tests.{le-leb, lt-leb, eq-eqb, ne-eqb, not-true, not-false}
 use Rattle.common.specs.declared.Refusal.the-variants as refusal
 use Rattle.memory.specs.Memory.{goodMap}
-use Rattle.script.specs.Header.{headerSize, headerAt, lengthOk, countsOk, eventsSection, imageSection, sectionOk, apart, sectionsOk, decided, scriptOf}
+use Rattle.script.specs.Header.{headerLeast, headerSize, headerAt, lengthOk, countsOk, eventsSection, imageSection, sectionOk, apart, sectionsOk, decided, scriptOf}
 use Rattle.script.specs.declared.header.Header.{Header}
 use Rattle.script.specs.declared.header.Section.{Section}
 use Rattle.script.specs.declared.header.Script.{Script}
@@ -16,13 +16,13 @@ use Rattle.script.specs.declared.header.Script.the-variants.{Good, Refus
 
 -- `length_ok`
 module _ (n : ℕ) where
-  pub length-short : n < headerSize → false ≡ lengthOk n
+  pub length-short : n < headerLeast → false ≡ lengthOk n
   unfolding lengthOk
-  length-short p = rw (lt-leb headerSize n p)
+  length-short p = rw (lt-leb headerLeast n p)
 
-  pub length-rest : headerSize ≤ n → leb n 61440 ≡ lengthOk n
+  pub length-rest : headerLeast ≤ n → leb n 61440 ≡ lengthOk n
   unfolding lengthOk
-  length-rest p = rw (le-leb headerSize n p)
+  length-rest p = rw (le-leb headerLeast n p)
 
 -- `counts_ok`
 module _ (h : Header) where
@@ -39,18 +39,18 @@ module _ (h : Header) where
   counts-rest p q = rw (le-leb (h .events) 2048 p, le-leb (h .image) 32768 q)
 
 -- `section_ok`
-module _ (n : ℕ) (p : Section) where
-  pub section-empty : p .at ≡ p .end → true ≡ sectionOk n p
+module _ (z n : ℕ) (p : Section) where
+  pub section-empty : p .at ≡ p .end → true ≡ sectionOk z n p
   unfolding sectionOk
   section-empty e = rw (eq-eqb (p .at) (p .end) e)
 
-  pub section-low : (p .at ≡ p .end → ⊥) → p .at < headerSize → false ≡ sectionOk n p
+  pub section-low : (p .at ≡ p .end → ⊥) → p .at < z → false ≡ sectionOk z n p
   unfolding sectionOk
-  section-low e q = rw (ne-eqb (p .at) (p .end) e, lt-leb headerSize (p .at) q)
+  section-low e q = rw (ne-eqb (p .at) (p .end) e, lt-leb z (p .at) q)
 
-  pub section-rest : (p .at ≡ p .end → ⊥) → headerSize ≤ p .at → leb (p .end) n ≡ sectionOk n p
+  pub section-rest : (p .at ≡ p .end → ⊥) → z ≤ p .at → leb (p .end) n ≡ sectionOk z n p
   unfolding sectionOk
-  section-rest e q = rw (ne-eqb (p .at) (p .end) e, le-leb headerSize (p .at) q)
+  section-rest e q = rw (ne-eqb (p .at) (p .end) e, le-leb z (p .at) q)
 
 -- `apart`
 module _ (p q : Section) where
@@ -71,18 +71,18 @@ module _ (p q : Section) where
   apart-rest e f g = rw (ne-eqb (p .at) (p .end) e, ne-eqb (q .at) (q .end) f, lt-leb (p .end) (q .at) g)
 
 -- `sections_ok`
-module _ (n : ℕ) (h : Header) (p q : Section) (ep : p ≡ eventsSection h) (eq : q ≡ imageSection h) (a : Bool) (ea : a ≡ sectionOk n p) where
+module _ (z n : ℕ) (h : Header) (p q : Section) (ez : z ≡ headerSize h) (ep : p ≡ eventsSection h) (eq : q ≡ imageSection h) (a : Bool) (ea : a ≡ sectionOk z n p) where
   pub sections-events : not a ≡ true → false ≡ sectionsOk n h
   unfolding sectionsOk
-  sections-events f = rw (← ep, ← ea, not-true a f)
+  sections-events f = rw (← ez, ← ep, ← ea, not-true a f)
 
-  pub sections-image : (b : Bool) → not a ≡ false → b ≡ sectionOk n q → not b ≡ true → false ≡ sectionsOk n h
+  pub sections-image : (b : Bool) → not a ≡ false → b ≡ sectionOk z n q → not b ≡ true → false ≡ sectionsOk n h
   unfolding sectionsOk
-  sections-image b f eb g = rw (← ep, ← eq, ← ea, not-false a f, ← eb, not-true b g)
+  sections-image b f eb g = rw (← ez, ← ep, ← eq, ← ea, not-false a f, ← eb, not-true b g)
 
-  pub sections-rest : (b r : Bool) → not a ≡ false → b ≡ sectionOk n q → not b ≡ false → r ≡ apart p q → r ≡ sectionsOk n h
+  pub sections-rest : (b r : Bool) → not a ≡ false → b ≡ sectionOk z n q → not b ≡ false → r ≡ apart p q → r ≡ sectionsOk n h
   unfolding sectionsOk
-  sections-rest b r f eb g er = er ∙ rw (← ep, ← eq, ← ea, not-false a f, ← eb, not-false b g)
+  sections-rest b r f eb g er = er ∙ rw (← ez, ← ep, ← eq, ← ea, not-false a f, ← eb, not-false b g)
 
 -- `header_of`
 module _ (s : List ℕ) (a : Bool) (ea : a ≡ lengthOk (length s)) where

@@ -11,7 +11,7 @@ use borrow.Author.Tests.{leb-false, lt-leb, eqb-false, ne-eqb}
 use Rattle.common.specs.Cases.{absurd-eq}
 use Rattle.common.specs.declared.Refusal.the-variants as refusal
 use Rattle.memory.specs.Memory.{goodMap}
-use Rattle.script.specs.Header.{headerSize, headerAt, lengthOk, countsOk, eventsSection, imageSection, sectionOk, apart, sectionsOk, decided, scriptOf}
+use Rattle.script.specs.Header.{headerLeast, headerSize, headerAt, lengthOk, countsOk, eventsSection, imageSection, sectionOk, apart, sectionsOk, decided, scriptOf}
 use Rattle.script.specs.Image.Laws.{bytes-length, bytes-getD}
 use Rattle.script.specs.Meaning.{BadHeader, BadMap, Misplaced, Overlap, BadSections, Meaning}
 use Rattle.script.specs.declared.header.Header.{Header}
@@ -47,7 +47,7 @@ fails-or {a = false} f g = (λ e. (f .0 refl, g .0 e), λ x. g .1 (x .1))
 header-fails : (n : ℕ) (h : Header) → Fails (lengthOk n && countsOk h) (BadHeader n h)
 unfolding lengthOk countsOk
 header-fails n h =
-    fails-and (fails-and (fails-leb headerSize n) (fails-leb n 61440))
+    fails-and (fails-and (fails-leb headerLeast n) (fails-leb n 61440))
     (fails-and (fails-and (fails-leb (h .events) 2048) (fails-leb (h .image) 32768)) (fails-eqb (h .image % 4096) 0))
 
 map-fails : (h : Header) → Fails (goodMap (h .base) (h .image)) (BadMap h)
@@ -55,10 +55,10 @@ map-fails h =
     rw good-map-is
     (fails-and (fails-and (fails-eqb (h .base % 4096) 0) (fails-eqb (h .image % 4096) 0)) (fails-leb (h .base + h .image) 0xFFFF_0000))
 
-section-fails : (n : ℕ) (p : Section) → Fails (sectionOk n p) (Misplaced n p)
+section-fails : (h : Header) (n : ℕ) (p : Section) → Fails (sectionOk (headerSize h) n p) (Misplaced h n p)
 unfolding sectionOk
-section-fails n p =
-    fails-or (fails-eqb (p .at) (p .end)) (fails-and (fails-leb headerSize (p .at)) (fails-leb (p .end) n))
+section-fails h n p =
+    fails-or (fails-eqb (p .at) (p .end)) (fails-and (fails-leb (headerSize h) (p .at)) (fails-leb (p .end) n))
 
 -- two sections that are not empty share a byte exactly when each starts before the other ends
 apart-fails : (p q : Section) → p .at ≤ p .end → q .at ≤ q .end → Fails (apart p q) (Overlap p q)
@@ -83,7 +83,7 @@ apart-fails p q h g =
 sections-fail : (n : ℕ) (h : Header) → Fails (sectionsOk n h) (BadSections n h)
 unfolding sectionsOk
 sections-fail n h =
-    fails-and (fails-and (section-fails n (eventsSection h)) (section-fails n (imageSection h)))
+    fails-and (fails-and (section-fails h n (eventsSection h)) (section-fails h n (imageSection h)))
     (apart-fails (eventsSection h) (imageSection h) (omega arith) (omega arith))
 
 -- ---- the refusals in order

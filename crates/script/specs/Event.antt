@@ -1,7 +1,9 @@
 -- One event of a script: document 01, "Events have 12 bytes: kind, size, aux (u16), a, b (u32)", big-endian.
 --
 --   eventAt s at     == the event whose bytes start at place `at` of s; a byte past the end is 0
-use Prim.Native.Nat.{ℕ, _+_}
+--   eventsFrom n s at == the n events from place `at` on
+use Prim.Native.Nat.{ℕ, zero, suc, _+_}
+use mathlib.Core.Path.{_≡_, refl}
 use mathlib.Core.List.{List, [], _∷_}
 use lib.ListN.{getD}
 use Rattle.common.specs.Bytes.{bigEndian}
@@ -20,3 +22,16 @@ wordOf s at k = bigEndian (byteOf s at k ∷ byteOf s at (k + 1) ∷ byteOf s at
 unfoldable pub eventAt : List ℕ → ℕ → Event
 eventAt s at =
     record { kind = byteOf s at 0; size = byteOf s at 1; aux = halfOf s at 2; a = wordOf s at 4; b = wordOf s at 8 }
+
+unfoldable pub eventsFrom : ℕ → List ℕ → ℕ → List Event
+eventsFrom zero s at = []
+eventsFrom (suc n) s at = eventAt s at ∷ eventsFrom n s (at + 12)
+
+module _ (s : List ℕ) (at : ℕ) where
+  pub events-none : eventsFrom 0 s at ≡ []
+  unfolding eventsFrom
+  events-none = refl
+
+  pub events-next : (n : ℕ) → eventsFrom (suc n) s at ≡ eventAt s at ∷ eventsFrom n s (at + 12)
+  unfolding eventsFrom
+  events-next n = refl

@@ -1,13 +1,14 @@
 -- A script's header and when a script is refused: document 01, 'Event script and its listing' and 'Numbered refusals'.
 --
---   headerSize              == the bytes of a header: six words
+--   headerLeast             == the bytes of the shortest header: six words
+--   headerSize h            == the bytes of this header
 --   headerAt s              == the header's words, "event count, events offset, image length, image offset, physical base, miss penalty"
 --   lengthOk n              == a script of n bytes is neither too short nor too long: the first half of refusal 4
 --   countsOk h              == neither too many events nor a bad image length: the second half of refusal 4
 --   eventsSection h         == where the events stand; an event has 12 bytes
 --   imageSection h          == where the image stands
 --   empty p                 == the section has no byte
---   sectionOk n p           == an empty section, or one between the header and the end of a script of n bytes
+--   sectionOk z n p         == an empty section, or one between a header of z bytes and the end of a script of n bytes
 --   apart p q               == the sections share no byte
 --   sectionsOk n h          == both sections are good and apart: refusal 5 is not due
 --   decided n h             == what becomes of a script of n bytes with this header: refusal 4, then 2, then 5, else good
@@ -30,8 +31,11 @@ use Rattle.script.specs.declared.header.Script.{Script}
 use Rattle.script.specs.declared.header.Script.the-variants.{Good, Refused}
 pub mod Laws
 
-abbrev pub headerSize : ℕ
-headerSize = 24
+abbrev pub headerLeast : ℕ
+headerLeast = 24
+
+abbrev pub headerSize : Header → ℕ
+headerSize h = headerLeast
 
 unfoldable pub headerAt : List ℕ → Header
 headerAt s =
@@ -46,7 +50,7 @@ headerAt s =
 
 -- "script under 24 or over 61,440 bytes"
 unfoldable pub lengthOk : ℕ → Bool
-lengthOk n = leb headerSize n && leb n 61440
+lengthOk n = leb headerLeast n && leb n 61440
 
 -- "more than 2,048 events, image over 32,768 or not a multiple of 4,096"
 unfoldable pub countsOk : Header → Bool
@@ -66,15 +70,15 @@ abbrev pub empty : Section → Bool
 empty p = eqb (p .at) (p .end)
 
 -- "a non-empty section starts before byte 24, ends after the script"
-unfoldable pub sectionOk : ℕ → Section → Bool
-sectionOk n p = empty p || (leb headerSize (p .at) && leb (p .end) n)
+unfoldable pub sectionOk : ℕ → ℕ → Section → Bool
+sectionOk z n p = empty p || (leb z (p .at) && leb (p .end) n)
 
 -- "or overlaps the other"
 unfoldable pub apart : Section → Section → Bool
 apart p q = empty p || empty q || leb (p .end) (q .at) || leb (q .end) (p .at)
 
 unfoldable pub sectionsOk : ℕ → Header → Bool
-sectionsOk n h = sectionOk n (eventsSection h) && sectionOk n (imageSection h) && apart (eventsSection h) (imageSection h)
+sectionsOk n h = sectionOk (headerSize h) n (eventsSection h) && sectionOk (headerSize h) n (imageSection h) && apart (eventsSection h) (imageSection h)
 
 -- "For a script 4, 2, 5"
 unfoldable pub decided : ℕ → Header → Script

@@ -3,7 +3,7 @@
 --
 --   BadHeader n h      == what refusal 4 names
 --   BadMap h           == what refusal 2 names; the image's length is tested by 4 already
---   Misplaced n p      == "a non-empty section starts before byte 24, ends after the script"
+--   Misplaced h n p    == "a non-empty section starts before byte 24, ends after the script"
 --   Within k p         == place k is in the section
 --   Overlap p q        == a byte is in both sections
 --   BadSections n h    == what refusal 5 names
@@ -14,7 +14,7 @@ use mathlib.Core.Logic.{_↔_, _⊎_, _≢_}
 use mathlib.Core.List.{List}
 use lib.ListN.{length, getD}
 use Rattle.common.specs.declared.Refusal.the-variants as refusal
-use Rattle.script.specs.Header.{headerSize, headerAt, eventsSection, imageSection, scriptOf}
+use Rattle.script.specs.Header.{headerLeast, headerSize, headerAt, eventsSection, imageSection, scriptOf}
 use Rattle.script.specs.Image.{bytesFrom}
 use Rattle.script.specs.declared.header.Header.{Header}
 use Rattle.script.specs.declared.header.Section.{Section}
@@ -22,14 +22,14 @@ use Rattle.script.specs.declared.header.Script.the-variants.{Good, Refus
 
 -- "script under 24 or over 61,440 bytes, more than 2,048 events, image over 32,768 or not a multiple of 4,096"
 abbrev pub BadHeader : ℕ → Header → Type 0
-BadHeader n h = ((n < headerSize) ⊎ (61440 < n)) ⊎ (((2048 < h .events) ⊎ (32768 < h .image)) ⊎ (h .image % 4096 ≢ 0))
+BadHeader n h = ((n < headerLeast) ⊎ (61440 < n)) ⊎ (((2048 < h .events) ⊎ (32768 < h .image)) ⊎ (h .image % 4096 ≢ 0))
 
 -- "base or length not a multiple of 4,096, or base + length above 0xFFFF0000"
 abbrev pub BadMap : Header → Type 0
 BadMap h = ((h .base % 4096 ≢ 0) ⊎ (h .image % 4096 ≢ 0)) ⊎ (0xFFFF_0000 < h .base + h .image)
 
-abbrev pub Misplaced : ℕ → Section → Type 0
-Misplaced n p = (p .at ≢ p .end) × ((p .at < headerSize) ⊎ (n < p .end))
+abbrev pub Misplaced : Header → ℕ → Section → Type 0
+Misplaced h n p = (p .at ≢ p .end) × ((p .at < headerSize h) ⊎ (n < p .end))
 
 abbrev pub Within : ℕ → Section → Type 0
 Within k p = (p .at ≤ k) × (k < p .end)
@@ -39,7 +39,7 @@ Overlap p q = (k : ℕ) × Within k p × Within k q
 
 -- "a non-empty section starts before byte 24, ends after the script, or overlaps the other"
 abbrev pub BadSections : ℕ → Header → Type 0
-BadSections n h = (Misplaced n (eventsSection h) ⊎ Misplaced n (imageSection h)) ⊎ Overlap (eventsSection h) (imageSection h)
+BadSections n h = (Misplaced h n (eventsSection h) ⊎ Misplaced h n (imageSection h)) ⊎ Overlap (eventsSection h) (imageSection h)
 
 pub record Meaning : Type 0 where
   -- refusal 4

@@ -1,7 +1,7 @@
 // A script's header: where the events and the image stand, when a script is refused, and the image's copy.
 ghost use mathlib.Core.Path.{_≡_};
 ghost use lib.ListN.{length};
-ghost use Rattle.script.specs.Header.{headerAt, lengthOk, countsOk, eventsSection, imageSection, sectionOk, apart, sectionsOk, scriptOf, eventPlace};
+ghost use Rattle.script.specs.Header.{headerAt, headerSize, lengthOk, countsOk, eventsSection, imageSection, sectionOk, apart, sectionsOk, scriptOf, eventPlace};
 ghost use Rattle.script.specs.Image.{bytesFrom};
 use crate::EVENT_SIZE;
 use crate::byte_at;
@@ -9,7 +9,8 @@ use crate::word_at;
 use common::Refusal;
 use memory::good_range;
 
-pub const HEADER_SIZE: usize = 24;
+// Six words, the shortest header.
+pub const HEADER_LEAST: usize = 24;
 
 pub const SCRIPT_MAX: usize = 61_440;
 
@@ -58,10 +59,17 @@ fn read_header(s: &[u8]) -> Header
     }
 }
 
+// How many bytes this header has.
+fn header_size(h: Header) -> usize
+    ensures { λ r. ⌜ r ≡ headerSize h ⌝ }
+{
+    HEADER_LEAST
+}
+
 fn length_ok(len: usize) -> bool
     ensures { λ r. ⌜ r ≡ lengthOk len ⌝ }
 {
-    if len < HEADER_SIZE {
+    if len < HEADER_LEAST {
         return false;
     }
     len <= SCRIPT_MAX
@@ -99,14 +107,14 @@ fn image_section(h: Header) -> Section
     }
 }
 
-// An empty section is not tested.
-fn section_ok(len: usize, p: Section) -> bool
-    ensures { λ r. ⌜ r ≡ sectionOk len p ⌝ }
+// A section behind `first` bytes of header. An empty one is not tested.
+fn section_ok(first: usize, len: usize, p: Section) -> bool
+    ensures { λ r. ⌜ r ≡ sectionOk first len p ⌝ }
 {
     if p.at == p.end {
         return true;
     }
-    if p.at < HEADER_SIZE {
+    if p.at < first {
         return false;
     }
     p.end <= len
@@ -131,12 +139,13 @@ fn apart(p: Section, q: Section) -> bool
 fn sections_ok(len: usize, h: Header) -> bool
     ensures { λ r. ⌜ r ≡ sectionsOk len h ⌝ }
 {
+    let first = header_size(h);
     let events = events_section(h);
     let image = image_section(h);
-    if !section_ok(len, events) {
+    if !section_ok(first, len, events) {
         return false;
     }
-    if !section_ok(len, image) {
+    if !section_ok(first, len, image) {
         return false;
     }
     apart(events, image)

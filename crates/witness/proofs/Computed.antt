@@ -19,7 +19,7 @@ use Rattle.memory.specs.Memory.{Memory, byteAt, gathered, allInside}
 use Rattle.memory.specs.declared.Content.the-variants as content
 use Rattle.mmu.specs.Check.{permits, judged, byWalk, bySlot, checkWith, checkPage, afterPage, checkEach, pagesAfter, pagesOf}
 use Rattle.mmu.specs.Tlb.{noEntry, matches, firstMatch}
-use Rattle.mmu.specs.Vm.{withTlb, filled}
+use Rattle.mmu.specs.Vm.{withTlb, filled, frameOf}
 use Rattle.mmu.specs.Walk.{tableOk, leafOk, leafEntry, walkLeaf, walkTable, walkOf}
 use Rattle.mmu.specs.declared.exception.Access.the-variants.{Read}
 use Rattle.mmu.specs.declared.exception.Exception.the-variants.{PageFault}
@@ -27,8 +27,8 @@ use Rattle.privilege.specs.Access.{fetchSize, dataSize, legalSize, translatingO
 use Rattle.privilege.specs.Addresses.{stepped}
 use Rattle.privilege.specs.Region.{grantsOf, someGrants, allAllowed}
 use Rattle.privilege.specs.State.{withVm}
-use Rattle.privilege.specs.Transfer.{frameOf, physicalOf, spots, loadAt, storeAt, memoryAt}
-use Rattle.machine.specs.Access.{Result, answered, presented, readOutcome, writeOutcome, readMoved, writeMoved, moved, permitted, accessOf}
+use Rattle.privilege.specs.Transfer.{physicalOf, spots, loadAt, storeAt, memoryAt}
+use Rattle.machine.specs.Access.{Result, accessAnswer, linesOf, presented, presentedEach, readOutcome, writeOutcome, dataOutcome, dataMemory, permitted, accessOf}
 use Rattle.machine.specs.State.{newMachine}
 use Rattle.machine.specs.declared.access.Outcome.the-variants.{Value, Exception}
 use Rattle.machine.specs.declared.state.Machine.{Machine}
@@ -47,7 +47,7 @@ unfoldable pub answerTo : Op → Machine → Memory → Answer
 answerTo o M m = answerOf (resultOf o M m)
 
 abbrev pub left : Machine → Memory → Answer → Result
-left M m x = record { accessed = answered M (x .outcome) (x .stall) (x .reads); memory = m }
+left M m x = record { accessed = accessAnswer M (x .outcome) (x .stall) (x .reads); memory = m }
 
 pub ran-one : (o : Op) (M : Machine) (m : Memory) (x : Answer) → answerTo o M m ≡ x → ranOps (o ∷ []) M m .answers ≡ x ∷ []
 unfolding ranOps answerTo
@@ -104,7 +104,7 @@ pub record Computed : Type 0 where
 ruleset reads = (laid-good, laid-read)
 
 pub computed : Computed
-unfolding answerTo accessOf permitted moved readMoved writeMoved checkAccess checkLegal fetchSize dataSize legalSize translatingOf allowsOf allAllowed someGrants grantsOf checkEach pagesOf pagesAfter checkPage checkWith firstMatch matches bySlot walkOf walkTable tableOk walkLeaf leafOk leafEntry bitSet byWalk filled judged permits afterPage physicalOf frameOf presented loaded stored lineDropped cacheableAt accessed newMachine noTags readOutcome writeOutcome loadAt storeAt memoryAt allInside spots stepped gathered contentIn byteIn bytesOf fits
+unfolding answerTo accessOf permitted dataOutcome dataMemory linesOf presentedEach checkAccess checkLegal fetchSize dataSize legalSize translatingOf allowsOf allAllowed someGrants grantsOf checkEach pagesOf pagesAfter checkPage checkWith firstMatch matches bySlot walkOf walkTable tableOk walkLeaf leafOk leafEntry bitSet byWalk filled judged permits afterPage physicalOf frameOf presented loaded stored lineDropped cacheableAt accessed newMachine noTags readOutcome writeOutcome loadAt storeAt memoryAt allInside spots stepped gathered contentIn byteIn bytesOf fits
 computed =
     record {
       laid-out = λ x. refl;

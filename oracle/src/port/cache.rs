@@ -23,25 +23,12 @@ extern "C" {
     fn cache_write_reg(c: Cache, offset: u32, value: u32) -> Cache;
     fn cache_read_byte(c: Cache, addr: u32) -> u8;
     fn cache_write_byte(c: Cache, addr: u32, value: u8) -> Cache;
-    fn cache_loads(c: Cache, first: u32, step: u32, n: u32) -> CacheAccess;
 }
 
 /// A new cache with a penalty.
 pub fn with_penalty(ram_start: u32, ram_size: u32, penalty: u32) -> Cache {
     // SAFETY: see the head of `port`.
     unsafe { cache_set_penalty(cache_new(ram_start, ram_size), penalty) }
-}
-
-/// One load.
-pub fn load(cache: Cache, pa: u32) -> CacheAccess {
-    // SAFETY: see the head of `port`.
-    unsafe { cache_load(cache, pa) }
-}
-
-/// So many loads in the port's own loop.
-pub fn loads(cache: Cache, first: u32, step: u32, n: u32) -> CacheAccess {
-    // SAFETY: see the head of `port`.
-    unsafe { cache_loads(cache, first, step, n) }
 }
 
 /// The port's side.

@@ -1,4 +1,4 @@
-//! The port's machine: a script's listing, and one event's step.
+//! The port's machine: a script's listing, and one event's step, by value or over a state that is lent.
 
 use crate::event::Event;
 use crate::script::Script;
@@ -17,6 +17,29 @@ pub struct Stepped {
     pub reads: u32,
 }
 
+impl Stepped {
+    pub fn line(&self) -> Line {
+        Line {
+            letter: self.letter,
+            digits: self.digits,
+            stall: self.stall,
+            reads: self.reads,
+        }
+    }
+}
+
+/// An event's line.
+#[repr(C)]
+pub struct Line {
+    pub letter: u8,
+    pub digits: u32,
+    pub stall: u64,
+    pub reads: u32,
+}
+
+/// A machine as the port keeps it in place.
+pub const STATE_WORDS: usize = 659;
+
 extern "C" {
     /// A lent slice crosses as its pointer and its length.
     fn machine_list(script: *const u8, length: usize, out: *mut u8, room: usize) -> usize;
@@ -32,6 +55,18 @@ extern "C" {
         a: u32,
         b: u32,
     ) -> Stepped;
+    fn machine_start(state: *mut [u32; STATE_WORDS], base: u32, len: u32, miss_penalty: u32);
+    fn machine_step_in(
+        state: *mut [u32; STATE_WORDS],
+        mem: *mut u8,
+        length: usize,
+        base: u32,
+        kind: u8,
+        size: u8,
+        aux: u16,
+        a: u32,
+        b: u32,
+    ) -> Line;
 }
 
 /// The listing of any bytes.
@@ -91,5 +126,40 @@ impl Machine {
             unsafe { machine_step(self.state, memory, length, self.base, kind, size, aux, a, b) };
         self.state = stepped.machine;
         stepped
+    }
+}
+
+/// The port's machine as words that stay here and are lent to each step, and its memory.
+pub struct Lent {
+    state: Box<[u32; STATE_WORDS]>,
+    pub memory: Vec<u8>,
+    base: u32,
+}
+
+impl Lent {
+    pub fn new(script: &Script) -> Self {
+        let length = script.image.len() as u32;
+        let mut state = Box::new([0; STATE_WORDS]);
+        // SAFETY: see the head of `port`; the state is lent for the call.
+        unsafe { machine_start(&mut *state, script.base, length, script.last) };
+        Self {
+            state,
+            memory: script.image.clone(),
+            base: script.base,
+        }
+    }
+
+    pub fn step(&mut self, event: &Event) -> Line {
+        let (memory, length) = (self.memory.as_mut_ptr(), self.memory.len());
+        let Event {
+            kind,
+            size,
+            aux,
+            a,
+            b,
+        } = *event;
+        let state = &mut *self.state;
+        // SAFETY: see the head of `port`; state and memory are lent for the call.
+        unsafe { machine_step_in(state, memory, length, self.base, kind, size, aux, a, b) }
     }
 }

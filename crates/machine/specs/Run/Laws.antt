@@ -1,28 +1,43 @@
 -- The laws of a run. Assumes nothing.
 --
---   run-lines      == a run of n events has n lines
---   run-next       == a run of one event more is the event's step, and the run on what that left
-use Prim.Native.Nat.{ℕ, zero, suc, _+_, _*_, _-_, _≤_, _<_}
+--   over-lines     == a run has a line for each event
+--   run-lines      == so a run of n events of a script has n lines
+--   run-none, run-next == a run of no event, and of one event more: the event's step, and the run on what that left
+use Prim.Native.Nat.{ℕ, zero, suc, _+_}
 use mathlib.Core.Path.{_≡_, refl, ap, _∙_}
 use mathlib.Core.List.{List, [], _∷_}
 use lib.ListN.{length}
 use Rattle.memory.specs.Memory.{Memory}
-use Rattle.script.specs.Event.{eventAt}
+use Rattle.script.specs.Event.{eventAt, eventsFrom, events-none, events-next}
 use Rattle.script.specs.declared.Event.{Event}
 use Rattle.machine.specs.Event.{Step, stepOf}
-use Rattle.machine.specs.Run.{Run, after, runFrom}
+use Rattle.machine.specs.Run.{Run, after, runOver, runFrom}
 use Rattle.machine.specs.declared.state.Machine.{Machine}
 
+pub over-none : (M : Machine) (m : Memory) → runOver [] M m ≡ record { machine = M; memory = m; lines = [] }
+unfolding runOver
+over-none M m = refl
+
+pub over-next : (e : Event) (es : List Event) (M : Machine) (m : Memory)
+    → runOver (e ∷ es) M m ≡ after (stepOf M m e .stepped .line) (runOver es (stepOf M m e .stepped .machine) (stepOf M m e .memory))
+unfolding runOver
+over-next e es M m = refl
+
+pub over-lines : (es : List Event) (M : Machine) (m : Memory) → length (runOver es M m .lines) ≡ length es
+unfolding runOver
+over-lines [] M m = refl
+over-lines (e ∷ es) M m = ap suc (over-lines es _ _)
+
+events-length : (n : ℕ) (s : List ℕ) (at : ℕ) → length (eventsFrom n s at) ≡ n
+events-length zero s at = ap length (events-none s at)
+events-length (suc n) s at = ap length (events-next s at n) ∙ ap suc (events-length n s (at + 12))
+
 pub run-lines : (n : ℕ) (s : List ℕ) (at : ℕ) (M : Machine) (m : Memory) → length (runFrom n s at M m .lines) ≡ n
-unfolding runFrom
-run-lines zero s at M m = refl
-run-lines (suc n) s at M m = ap suc (run-lines n s (at + 12) _ _)
+run-lines n s at M m = over-lines (eventsFrom n s at) M m ∙ events-length n s at
 
 pub run-none : (s : List ℕ) (at : ℕ) (M : Machine) (m : Memory) → runFrom 0 s at M m ≡ record { machine = M; memory = m; lines = [] }
-unfolding runFrom
-run-none s at M m = refl
+run-none s at M m = ap (λ (es : List Event). runOver es M m) (events-none s at) ∙ over-none M m
 
 pub run-next : (n : ℕ) (s : List ℕ) (at : ℕ) (M : Machine) (m : Memory)
     → runFrom (suc n) s at M m ≡ after (stepOf M m (eventAt s at) .stepped .line) (runFrom n s (at + 12) (stepOf M m (eventAt s at) .stepped .machine) (stepOf M m (eventAt s at) .memory))
-unfolding runFrom
-run-next n s at M m = refl
+run-next n s at M m = ap (λ (es : List Event). runOver es M m) (events-next s at n) ∙ over-next (eventAt s at) (eventsFrom n s (at + 12)) M m

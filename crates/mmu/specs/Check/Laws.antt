@@ -14,7 +14,7 @@ use Rattle.common.specs.Cases.{absurd-eq, cond-holds, cond-case}
 use Rattle.memory.specs.Memory.{Memory, readAt, wordSpots}
 use Rattle.memory.specs.declared.Content.{Content}
 use Rattle.memory.specs.declared.Content.the-variants.{Value, Outside}
-use Rattle.mmu.specs.Tlb.{firstMatch}
+use Rattle.mmu.specs.Vm.{slotOf}
 use Rattle.mmu.specs.Walk.{tableOk, leafOk, spot1, spot2, walkLeaf, walkTable, walkOf}
 use Rattle.mmu.specs.Exception.{accessBit}
 use Rattle.mmu.specs.Check.{pageAddr, belowReserved, permits, byWalk, bySlot, checkWith, checkPage}
@@ -59,7 +59,7 @@ pub page-reads : (m : Memory) (vm : Vm) (k : Access) (va : ℕ) → checkPage m 
 unfolding checkPage checkWith
 page-reads m vm k va =
     cond-holds (λ (c : Checked). c .reads ≤ 2) (belowReserved (pageAddr (va / 4096)))
-    (by-slot-reads vm k va (walkOf m (vm .ptbr) va) (firstMatch (va / 4096) 0 (vm .tlb)) (walk-reads m (vm .ptbr) va))
+    (by-slot-reads vm k va (walkOf m (vm .ptbr) va) (slotOf vm va) (walk-reads m (vm .ptbr) va))
     (lit≤ tt)
 
 pub allowed-low : (m : Memory) (vm : Vm) (k : Access) (va : ℕ) → checkPage m vm k va .verdict ≡ Allowed → pageAddr (va / 4096) < 0xFFFF_0000

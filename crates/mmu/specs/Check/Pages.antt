@@ -15,8 +15,7 @@ use Rattle.common.specs.Lists.{Each}
 use Rattle.memory.specs.Memory.{Memory}
 use Rattle.mmu.specs.Check.{pageAddr, belowReserved, byWalk, bySlot, checkWith, checkPage, afterPage, checkEach}
 use Rattle.mmu.specs.Check.Laws.{page-reads}
-use Rattle.mmu.specs.Tlb.{firstMatch}
-use Rattle.mmu.specs.Vm.{victim, filled}
+use Rattle.mmu.specs.Vm.{victim, filled, slotOf}
 use Rattle.mmu.specs.Walk.{walkOf}
 use Rattle.mmu.specs.declared.check.Checked.{Checked}
 use Rattle.mmu.specs.declared.check.Verdict.{Verdict}
@@ -62,7 +61,7 @@ page-keeps : (m : Memory) (vm : Vm) (k : Access) (va : ℕ) → VmKept vm (check
 unfolding checkPage checkWith
 page-keeps m vm k va =
     cond-holds (λ (c : Checked). VmKept vm (c .vm)) (belowReserved (pageAddr (va / 4096)))
-    (slot-keeps vm k va (walkOf m (vm .ptbr) va) (firstMatch (va / 4096) 0 (vm .tlb))) (kept-same vm)
+    (slot-keeps vm k va (walkOf m (vm .ptbr) va) (slotOf vm va)) (kept-same vm)
 
 after-keeps : (vm : Vm) (v : Verdict) (page rest : Checked) → VmKept vm (page .vm) → VmKept vm (rest .vm) → VmKept vm (afterPage v page rest .vm)
 unfolding afterPage

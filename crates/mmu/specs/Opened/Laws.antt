@@ -10,10 +10,9 @@ use Prim.Native.Nat.{ℕ, zero, suc, _+_, _-_, _*_, _/_, _%_, _^_, _≤_, _<_}
 use mathlib.Core.Path.{_≡_, refl, sym, ap, _∙_}
 use mathlib.Core.Bool.{Bool, true, false, cond}
 use mathlib.Core.List.{List, [], _∷_}
-use mathlib.Core.Logic.{_≢_}
 use native.Mathlib.Decide.{ℕ-discrete}
 use native.Mathlib.Omega.{arith}
-use lib.Dec.{lit<, ltb, eqb}
+use lib.Dec.{lit<}
 use native.Mathlib.Nat.{mod-lt}
 use lib.ListN.{length, getD, set, length-set}
 use lib.Seq.{getD-set-same, getD-set-other}
@@ -24,12 +23,12 @@ use Rattle.memory.specs.Memory.{Memory, byteAt, readAt, wordSpots}
 use Rattle.memory.specs.Memory.Laws.{read-same}
 use Rattle.memory.specs.declared.Content.{Content}
 use Rattle.memory.specs.declared.Content.the-variants.{Value, Outside}
-use Rattle.mmu.specs.Tlb.{noEntry, matches, firstMatch}
+use Rattle.mmu.specs.Tlb.{noEntry, matches}
 use Rattle.mmu.specs.Tlb.Laws.{found-bound, found-matches, found-after-fill, matches-valid, matches-page}
-use Rattle.mmu.specs.Vm.{victim, filled}
-use Rattle.mmu.specs.Walk.{tableOk, leafOk, leafEntry, wordOfTable, spot1, spot2, answered, walkLeaf, walkTable, walkOf}
+use Rattle.mmu.specs.Vm.{victim, filled, slotOf}
+use Rattle.mmu.specs.Walk.{tableOk, leafOk, leafEntry, wordOfTable, spot1, walkLeaf, walkTable, walkOf}
 use Rattle.mmu.specs.Check.{pageAddr, belowReserved, permits, faulted, judged, byWalk, bySlot, checkWith, checkPage, afterPage, checkEach, pagesAfter, pagesOf}
-use Rattle.mmu.specs.Opened.{TableByte, level1, level2, Usable, resident, leaf, frameOf, Opened, opened}
+use Rattle.mmu.specs.Opened.{TableByte, level1, level2, Usable, resident, leaf}
 use Rattle.mmu.specs.declared.tlb.TlbEntry.{TlbEntry}
 use Rattle.mmu.specs.declared.tlb.Slot.{Slot}
 use Rattle.mmu.specs.declared.tlb.Slot.the-variants.{At, Nothing}
@@ -102,11 +101,6 @@ unfolding filled
 refilled-enabled kept = refl
 refilled-enabled (refill r va e h w) = refilled-enabled r
 
-pub refilled-vfault : {m : Memory} {vm vm′ : Vm} → Refilled m vm vm′ → vm′ .vfault ≡ vm .vfault
-unfolding filled
-refilled-vfault kept = refl
-refilled-vfault (refill r va e h w) = refilled-vfault r
-
 pub refilled-slots : {m : Memory} {vm vm′ : Vm} → Refilled m vm vm′ → length (vm′ .tlb) ≡ length (vm .tlb)
 unfolding filled
 refilled-slots kept = refl
@@ -149,7 +143,7 @@ module _ (m : Memory) (vm vm′ : Vm) (r : Refilled m vm vm′) (k : Access) (va
 -- the slot that the new TLB finds the page in, and its entry
 pub record Passed (m : Memory) (vm : Vm) (k : Access) (va : ℕ) (c : Checked) : Type 0 where
   pub slot : ℕ
-  pub again : firstMatch (va / 4096) 0 (c .vm .tlb) ≡ At slot
+  pub again : slotOf (c .vm) va ≡ At slot
   pub usable : Usable m vm (getD (c .vm .tlb) slot noEntry)
   pub low : getD (c .vm .tlb) slot noEntry .vpn < 0xFFFF0
   pub granted : permits (getD (c .vm .tlb) slot noEntry) k ≡ true
@@ -188,7 +182,7 @@ unfolding walkOf
 walked-matches m ptbr va e p = table-walked m va e _ p
 
 module _ (m : Memory) (vm : Vm) (k : Access) (va : ℕ) (small : va < 2 ^ 32) (slots : length (vm .tlb) ≡ 16) (low : va / 4096 < 0xFFFF0) where
-  walk-passed : (x : Walked) (n : ℕ) → walkOf m (vm .ptbr) va .walked ≡ x → firstMatch (va / 4096) 0 (vm .tlb) ≡ Nothing
+  walk-passed : (x : Walked) (n : ℕ) → walkOf m (vm .ptbr) va .walked ≡ x → slotOf vm va ≡ Nothing
       → byWalk vm k va n x .verdict ≡ Allowed → Passed m vm k va (byWalk vm k va n x)
   unfolding byWalk filled
   walk-passed (walked.Leaf e) n w q p =
@@ -205,7 +199,7 @@ module _ (m : Memory) (vm : Vm) (k : Access) (va : ℕ) (small : va < 2 ^ 32) (s
   walk-passed walked.Missing n w q p = absurd-eq (cc)
   walk-passed walked.BusError n w q p = absurd-eq (cc)
 
-  slot-passed : (s : Slot) → firstMatch (va / 4096) 0 (vm .tlb) ≡ s → bySlot vm k va (walkOf m (vm .ptbr) va) s .verdict ≡ Allowed
+  slot-passed : (s : Slot) → slotOf vm va ≡ s → bySlot vm k va (walkOf m (vm .ptbr) va) s .verdict ≡ Allowed
       → Passed m vm k va (bySlot vm k va (walkOf m (vm .ptbr) va) s)
   unfolding bySlot
   slot-passed (At i) q p =

@@ -2,6 +2,7 @@
 --
 --   flushed-is        == a flush keeps the registers and zeroes the TLB and next_victim
 --   no-entries        == it leaves no valid entry
+--   frame-same        == addresses of one page lead to one frame
 --   invalidated-else, invalidated-entry == TLBINV changes the TLB alone, and there the valid marks of the page's entries alone
 use Prim.Native.Nat.{ℕ, _/_}
 use mathlib.Core.Path.{_≡_, refl, ap}
@@ -12,7 +13,7 @@ use lib.ListN.{getD, replicate, getD-replicate, List·getD-eq-default}
 use Rattle.common.specs.Cases.{lt-or-ge}
 use Rattle.mmu.specs.Tlb.{noEntry, noEntries}
 use Rattle.mmu.specs.Tlb.Laws.{markDropped, dropped-at}
-use Rattle.mmu.specs.Vm.{withTlb, flushed, invalidated}
+use Rattle.mmu.specs.Vm.{withTlb, flushed, invalidated, frameOf}
 use Rattle.mmu.specs.declared.tlb.TlbEntry.{TlbEntry}
 use Rattle.mmu.specs.declared.vm.Vm.{Vm}
 
@@ -25,6 +26,10 @@ unfolding flushed noEntries
 no-entries vm i =
     ⊎-elim (λ h. ap (λ (e : TlbEntry). e .valid) (getD-replicate 16 i noEntry noEntry h))
     (λ h. ap (λ (e : TlbEntry). e .valid) (List·getD-eq-default (replicate 16 noEntry) noEntry {n = i} h)) (lt-or-ge i 16)
+
+pub frame-same : (vm : Vm) (a b : ℕ) → a / 4096 ≡ b / 4096 → frameOf vm a ≡ frameOf vm b
+unfolding frameOf
+frame-same vm a b e = rw e
 
 pub invalidated-else : (vm : Vm) (va : ℕ) → invalidated vm va ≡ withTlb vm (invalidated vm va .tlb) (vm .«next_victim»)
 unfolding invalidated

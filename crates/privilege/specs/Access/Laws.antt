@@ -5,13 +5,17 @@
 --   legal-answers      == a legal access is allowed or denied, never refused
 --   by-supervisor, by-regions, by-pages       == the check in each mode
 --   check-keeps        == what any check leaves, a refused or denied one included
---   check-translating, check-user             == the mode stays
+--   check-user         == the mode stays
 --   refused-nothing    == a refusal has changed nothing and read nothing
---   check-same         == a check depends on memory only through the map and the walks of its pages
-use Prim.Native.Nat.{ℕ}
+--   legal-few, allowed-size == a legal size, and so an allowed access's, is between 1 and 4
+--   good-same          == of memory, whether the map is good depends on the map alone
+use Prim.Native.Nat.{ℕ, _≤_, _<_}
 use mathlib.Core.Path.{_≡_, refl, ap}
-use mathlib.Core.Bool.{true, false}
-use Rattle.common.specs.Cases.{absurd-eq, cond-holds}
+use mathlib.Core.Bool.{Bool, true, false, _||_}
+use native.Mathlib.Omega.{arith}
+use lib.Dec.{eqb}
+use borrow.Author.Tests.{eqb-true}
+use Rattle.common.specs.Cases.{absurd-eq, cond-holds, cond-case}
 use Rattle.common.specs.declared.Refusal.{Refusal}
 use Rattle.common.specs.declared.Refusal.the-variants.{Size, Map}
 use Rattle.memory.specs.Memory.{Memory}
@@ -20,8 +24,9 @@ use Rattle.mmu.specs.Check.{checkEach, pagesOf}
 use Rattle.mmu.specs.declared.check.Verdict.{Verdict}
 use Rattle.mmu.specs.declared.check.Verdict.the-variants as verdict
 use Rattle.mmu.specs.declared.exception.Access.{Access}
-use Rattle.privilege.specs.Access.{legalSize, mapGood, translatingOf, allowsOf, permissionOf, accessAnswered, fromPages, byRegions, checkLegal, checkAccess}
-use Rattle.mmu.specs.Check.Pages.{VmKept, kept-same, pages-keep, SameWalks, pages-same}
+use Rattle.mmu.specs.declared.exception.Access.the-variants.{Read, Write, Fetch}
+use Rattle.privilege.specs.Access.{fetchSize, dataSize, legalSize, mapGood, translatingOf, allowsOf, permissionOf, accessAnswered, fromPages, byRegions, checkLegal, checkAccess}
+use Rattle.mmu.specs.Check.Pages.{VmKept, kept-same, pages-keep}
 use Rattle.privilege.specs.State.{withVm}
 use Rattle.privilege.specs.declared.check.Permission.{Permission}
 use Rattle.privilege.specs.declared.check.Permission.the-variants.{Allowed, Denied, Refused}
@@ -34,6 +39,21 @@ pub record Kept (s s′ : SystemState) : Type 0 where
 
 kept-all : (s : SystemState) → Kept s s
 kept-all s = record { else = refl; vm = kept-same (s .vm) }
+
+fetch-few : (n : ℕ) (b c : Bool) → eqb n 2 ≡ b → eqb n 4 ≡ c → (b || c) ≡ true → (0 < n) × (n ≤ 4)
+fetch-few n true c e f h = let is = eqb-true n 2 e in (omega arith, omega arith)
+fetch-few n false true e f h = let is = eqb-true n 4 f in (omega arith, omega arith)
+fetch-few n false false e f h = absurd-eq (cc)
+
+data-few : (n : ℕ) (b : Bool) → eqb n 1 ≡ b → (b || (eqb n 2 || eqb n 4)) ≡ true → (0 < n) × (n ≤ 4)
+data-few n true e h = let is = eqb-true n 1 e in (omega arith, omega arith)
+data-few n false e h = fetch-few n (eqb n 2) (eqb n 4) refl refl h
+
+pub legal-few : (k : Access) (n : ℕ) → legalSize k n ≡ true → (0 < n) × (n ≤ 4)
+unfolding legalSize dataSize fetchSize
+legal-few Read n h = data-few n (eqb n 1) refl h
+legal-few Write n h = data-few n (eqb n 1) refl h
+legal-few Fetch n h = fetch-few n (eqb n 2) (eqb n 4) refl refl h
 
 module _ (m : Memory) (s : SystemState) (a n : ℕ) (k : Access) where
   -- ---- the refusals
@@ -94,10 +114,6 @@ module _ (m : Memory) (s : SystemState) (a n : ℕ) (k : Access) where
   pub check-user : checkAccess m s a n k .sys .user ≡ s .user
   check-user = ap (λ (t : SystemState). t .user) (check-keeps .else)
 
-  pub check-translating : translatingOf (checkAccess m s a n k .sys) ≡ translatingOf s
-  unfolding translatingOf
-  check-translating = rw (check-user, check-keeps .vm .enabled)
-
   pub refused-nothing : (r : Refusal) → checkAccess m s a n k .permission ≡ Refused r → checkAccess m s a n k ≡ accessAnswered s (Refused r)
   unfolding checkAccess
   refused-nothing r =
@@ -106,12 +122,13 @@ module _ (m : Memory) (s : SystemState) (a n : ℕ) (k : Access) where
       (λ e. absurd (legal-answers r e)) (λ e. ap (accessAnswered s) e))
       (λ e. ap (accessAnswered s) e)
 
--- ---- what a check depends on
+  pub allowed-size : checkAccess m s a n k .permission ≡ Allowed → (0 < n) × (n ≤ 4)
+  unfolding checkAccess
+  allowed-size =
+      cond-case (λ (c : AccessChecked). c .permission ≡ Allowed → (0 < n) × (n ≤ 4)) (mapGood m)
+      (λ good. cond-case (λ (c : AccessChecked). c .permission ≡ Allowed → (0 < n) × (n ≤ 4)) (legalSize k n)
+      (λ legal e. legal-few k n legal) (λ bad e. absurd-eq (cc)))
+      (λ bad e. absurd-eq (cc))
 
 pub good-same : (m m′ : Memory) → SameMap m m′ → mapGood m ≡ mapGood m′
 good-same m m′ e = rw (e .base, e .size)
-
-pub check-same : (m m′ : Memory) (s : SystemState) (a n : ℕ) (k : Access) → SameMap m m′ → SameWalks m m′ (s .vm .ptbr) (pagesOf a n)
-    → checkAccess m s a n k ≡ checkAccess m′ s a n k
-unfolding checkAccess checkLegal
-check-same m m′ s a n k e w = rw (good-same m m′ e, pages-same m m′ k (s .vm) (pagesOf a n) w)

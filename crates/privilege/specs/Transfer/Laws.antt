@@ -9,7 +9,6 @@
 --   store-same               == equal maps give a store equal answers
 --   store-map                == a store leaves the map
 --   store-both, store-other  == a byte after a store: equal ones stay equal, and one that is at none of the addresses stays
---   store-refused            == a refused store leaves the memory
 use Prim.Native.Nat.{ℕ, zero, suc, _+_, _/_, _%_, _^_, _≤_, _<_}
 use mathlib.Core.Path.{_≡_, refl, ap, _∙_}
 use mathlib.Core.Bool.{Bool, true, false, cond}
@@ -18,19 +17,17 @@ use mathlib.Core.Logic.{_≢_}
 use native.Mathlib.Omega.{arith}
 use lib.ListN.{length}
 use Rattle.common.specs.Bytes.{bytesOf}
-use Rattle.common.specs.Cases.{absurd-eq, cond-holds}
+use Rattle.common.specs.Cases.{cond-holds}
 use Rattle.common.specs.Lists.{Each}
-use Rattle.common.specs.declared.Refusal.{Refusal}
-use Rattle.common.specs.declared.Refusal.the-variants.{Size, Map}
-use Rattle.memory.specs.Memory.{Memory, byteAt, wordSpots, putAt, allInside}
+use Rattle.memory.specs.Memory.{Memory, byteAt, wordSpots, putAt}
 use Rattle.memory.specs.Memory.Laws.{SameMap, same-map, read-same, all-inside-same, write-map, write-both, write-other}
+use Rattle.mmu.specs.Vm.{frameOf}
 use Rattle.mmu.specs.declared.vm.Vm.{Vm}
 use Rattle.privilege.specs.Access.{dataSize, mapGood, translatingOf}
 use Rattle.privilege.specs.Access.Laws.{good-same}
 use Rattle.privilege.specs.Addresses.{stepped}
-use Rattle.privilege.specs.Transfer.{frameOf, joinedTo, physicalOf, spots, loadAt, storeAt, memoryAt}
+use Rattle.privilege.specs.Transfer.{joinedTo, physicalOf, spots, loadAt, storeAt, memoryAt}
 use Rattle.privilege.specs.declared.state.SystemState.{SystemState}
-use Rattle.privilege.specs.declared.transfer.DataWritten.the-variants.{Done, BusError, Refused}
 
 module _ (s : SystemState) (va : ℕ) where
   pub spots-none : spots s va 0 ≡ []
@@ -110,14 +107,3 @@ store-both m m′ n l v b e h = rw (good-same m m′ e) (by-size (mapGood m′) 
     by-size true true = write-both m m′ l (bytesOf n v) b h
     by-size true false = h
     by-size false legal = h
-
-pub store-refused : (m : Memory) (n : ℕ) (l : List ℕ) (v : ℕ) (r : Refusal) → storeAt m n l ≡ Refused r → memoryAt m n l v ≡ m
-unfolding storeAt memoryAt
-store-refused m n l v r = by-size (mapGood m) (dataSize n) (allInside m l)
-  where
-    by-size : (good legal all : Bool) → cond good (cond legal (cond all Done BusError) (Refused Size)) (Refused Map) ≡ Refused r
-        → cond good (cond legal (putAt m l (bytesOf n v)) m) m ≡ m
-    by-size true true true e = absurd-eq (cc)
-    by-size true true false e = absurd-eq (cc)
-    by-size true false all e = refl
-    by-size false legal all e = refl

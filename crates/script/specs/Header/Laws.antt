@@ -16,7 +16,7 @@ use borrow.Author.Tests.{leb-true, eqb-true, ne-eqb}
 use Rattle.common.specs.Cases.{absurd-eq}
 use Rattle.common.specs.declared.Refusal.the-variants as refusal
 use Rattle.memory.specs.Memory.{goodMap}
-use Rattle.script.specs.Header.{headerSize, headerAt, lengthOk, countsOk, eventPlace, eventsSection, imageSection, sectionOk, apart, sectionsOk, decided, scriptOf}
+use Rattle.script.specs.Header.{headerLeast, headerSize, headerAt, lengthOk, countsOk, eventPlace, eventsSection, imageSection, sectionOk, apart, sectionsOk, decided, scriptOf}
 use Rattle.script.specs.Image.{bytesFrom}
 use Rattle.script.specs.Image.Laws.{bytes-none, bytes-inside}
 use Rattle.script.specs.declared.header.Header.{Header}
@@ -55,26 +55,26 @@ both : {a b : Bool} {P Q : Type 0} → (a ≡ true → P) → (b ≡ true → Q)
 both {a = true} f g e = (f refl, g e)
 both {a = false} f g e = absurd-eq (cc)
 
-length-tells : (n : ℕ) → lengthOk n ≡ true → (headerSize ≤ n) × (n ≤ 61440)
+length-tells : (n : ℕ) → lengthOk n ≡ true → (headerLeast ≤ n) × (n ≤ 61440)
 unfolding lengthOk
-length-tells n = both (leb-true headerSize n) (leb-true n 61440)
+length-tells n = both (leb-true headerLeast n) (leb-true n 61440)
 
 counts-tell : (h : Header) → countsOk h ≡ true → ((h .events ≤ 2048) × (h .image ≤ 32768)) × (h .image % 4096 ≡ 0)
 unfolding countsOk
 counts-tell h = both (both (leb-true (h .events) 2048) (leb-true (h .image) 32768)) (eqb-true (h .image % 4096) 0)
 
-section-tells : (n : ℕ) (p : Section) → sectionOk n p ≡ true → p .at < p .end → p .end ≤ n
+section-tells : (z n : ℕ) (p : Section) → sectionOk z n p ≡ true → p .at < p .end → p .end ≤ n
 unfolding sectionOk
-section-tells n p e h =
+section-tells z n p e h =
     let ne : p .at ≡ p .end → ⊥ = λ q. omega arith in
-    both (leb-true headerSize (p .at)) (leb-true (p .end) n) (rw (ne-eqb (p .at) (p .end) ne) at e) .1
+    both (leb-true z (p .at)) (leb-true (p .end) n) (rw (ne-eqb (p .at) (p .end) ne) at e) .1
 
 sections-tell : (n : ℕ) (h : Header) → sectionsOk n h ≡ true
     → ((0 < h .events → eventPlace h (h .events) ≤ n) × (0 < h .image → h .«image_at» + h .image ≤ n)) × (apart (eventsSection h) (imageSection h) ≡ true)
 unfolding sectionsOk
 sections-tell n h =
     both
-    (both (λ e g. section-tells n (eventsSection h) e (omega arith)) (λ e g. section-tells n (imageSection h) e (omega arith)))
+    (both (λ e g. section-tells (headerSize h) n (eventsSection h) e (omega arith)) (λ e g. section-tells (headerSize h) n (imageSection h) e (omega arith)))
     (λ e. e)
 
 passed-sound : (s : List ℕ) (h : Header) → h ≡ headerAt s → Passed (length s) h → Sound s h

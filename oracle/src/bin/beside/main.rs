@@ -6,7 +6,6 @@ mod compare;
 mod irqc;
 mod mmu;
 mod scripts;
-mod speed;
 mod states;
 
 use std::env;
@@ -25,7 +24,6 @@ The published SRC32 modules beside the port, in one process.
   beside cache [--seed S] [--count N]      the L1 tag cache
   beside mmu [--seed S] [--count N]        TLB, walk and page check
   beside states [--seed S] [--count N]     single operations on states that no script makes
-  beside speed [--count N]                 nanoseconds a load of the cache takes
   beside --help                            this text
 
 Seed (1) and count (scripts 1000, operations 1000000) are decimal. Prints how many scripts or
@@ -69,7 +67,6 @@ fn run(name: &str, rest: &[String]) -> Result<String, String> {
         ("cache", _) => operations().and_then(|o| cache::run(o.seed, o.count)),
         ("mmu", _) => operations().and_then(|o| mmu::run(o.seed, o.count)),
         ("states", _) => operations().and_then(|o| states::run(o.seed, o.count)),
-        ("speed", _) => operations().and_then(|o| speed::run(o.count)),
         ("--help" | "-h" | "help", _) => Ok(HELP.to_string()),
         _ => Err(format!("unknown component: {name}\n\n{HELP}")),
     }

@@ -23,6 +23,7 @@ Rows:
   controller traps        sources that rise, are cleared and fall; traps and returns
   mix                     the generator's scripts, one after the other
   load-call store-call fetch-call    the first three by one by-value call an event
+  load-lent store-lent fetch-lent    the first three by one call an event over a state that the caller holds
   floor                   address arithmetic and the data load alone
   runner                  a largest script, process start included, beside the oracle's listing
 ";

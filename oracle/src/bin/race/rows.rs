@@ -8,7 +8,7 @@ use oracle::machine::{
 use oracle::script::PAGE;
 
 use crate::mix::mix;
-use crate::sides::{place, port, port_by_value, Side};
+use crate::sides::{place, port, port_by_value, port_lent, Side};
 use crate::work::{event, regions, scene, translated, Work, DATA, FRAMES, MAPPED, VIRTUAL};
 
 pub struct Row {
@@ -48,7 +48,18 @@ const fn call(name: &'static str, work: fn(u32) -> Vec<Work>) -> Row {
     }
 }
 
-pub const ROWS: [Row; 13] = [
+/// A row whose port side is one call an event over a state that the caller holds.
+const fn lent(name: &'static str, work: fn(u32) -> Vec<Work>) -> Row {
+    Row {
+        name,
+        share: 1,
+        work,
+        port: port_lent,
+        target: 1.0,
+    }
+}
+
+pub const ROWS: [Row; 16] = [
     row("loads", 0.35, 1, loads),
     row("stores", 0.5, 1, stores),
     row("fetches", 0.5, 1, fetches),
@@ -62,6 +73,9 @@ pub const ROWS: [Row; 13] = [
     call("load-call", loads),
     call("store-call", stores),
     call("fetch-call", fetches),
+    lent("load-lent", loads),
+    lent("store-lent", stores),
+    lent("fetch-lent", fetches),
 ];
 
 /// Events after a set-up, over the scene.
@@ -145,8 +159,8 @@ fn traps(count: u32) -> Vec<Work> {
 
 #[cfg(test)]
 mod tests {
-    use super::{crossings, Row, ROWS};
-    use crate::sides::{published, Totals};
+    use super::{crossings, mix, Row, ROWS};
+    use crate::sides::{port_lent, published, Totals};
     use crate::work::translated;
     use oracle::event::{Event, LENGTH};
     use oracle::script::PAGE;
@@ -198,6 +212,16 @@ mod tests {
     fn region_and_supervisor_loads_pass() {
         assert_eq!(totals("regions").1.exceptions, 17);
         assert_eq!(totals("supervisor").1.bus_errors, 17);
+    }
+
+    /// The calls over a lent state agree on events of all kinds.
+    #[test]
+    fn lent_calls_agree() {
+        for work in mix(COUNT) {
+            let (rust, port) = (published(&work), port_lent(&work));
+            assert_eq!(rust.totals, port.totals);
+            assert!(rust.memory == port.memory);
+        }
     }
 
     #[test]

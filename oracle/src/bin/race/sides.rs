@@ -38,7 +38,7 @@ impl Totals {
         self.reads = self.reads.wrapping_add(u64::from(answer.reads));
     }
 
-    fn add_line(&mut self, line: &port::Stepped) {
+    fn add_line(&mut self, line: &port::Line) {
         let letters = match line.letter {
             b'V' => &mut self.values,
             b'X' => &mut self.exceptions,
@@ -113,18 +113,34 @@ pub fn port(work: &Work) -> Ran {
 /// The port, by value: the whole state goes into each step and comes back, over the border to C.
 pub fn port_by_value(work: &Work) -> Ran {
     let mut machine = port::Machine::new(&work.script);
-    let mut totals = Totals::default();
-    let start = Instant::now();
-    let (rows, _) = work.events.as_chunks::<LENGTH>();
-    for row in rows {
-        totals.add_line(&machine.step(&Event::decode(row)));
-    }
-    let time = start.elapsed();
+    let (totals, time) = called(work, |event| machine.step(event).line());
     Ran {
         totals,
         memory: machine.memory,
         time,
     }
+}
+
+/// The port, one call an event over words that stay on this side.
+pub fn port_lent(work: &Work) -> Ran {
+    let mut machine = port::Lent::new(&work.script);
+    let (totals, time) = called(work, |event| machine.step(event));
+    Ran {
+        totals,
+        memory: machine.memory,
+        time,
+    }
+}
+
+/// One call an event. Both machines are made before the clock starts, as the Rust's is.
+fn called(work: &Work, mut step: impl FnMut(&Event) -> port::Line) -> (Totals, Duration) {
+    let mut totals = Totals::default();
+    let start = Instant::now();
+    let (rows, _) = work.events.as_chunks::<LENGTH>();
+    for row in rows {
+        totals.add_line(&step(&Event::decode(row)));
+    }
+    (totals, start.elapsed())
 }
 
 fn timed(work: &Work, run: impl FnOnce(&mut [u8]) -> Totals) -> Ran {

@@ -1,16 +1,15 @@
--- `cache::L1Cache::cacheable` meets its contract: the two comparisons are the definition's. Assumes nothing.
-use borrow.Author.Tests.{le-leb, lt-leb}
+-- `cache::L1Cache::cacheable` meets its contract: the range is the cache's. Assumes nothing.
+use borrow.Author.Needs.{needs}
 use Rattle.cache.specs.Cache.{cacheableAt}
 use Rattle.cache.proofs.L1Cache.cacheable.Statement.{statement}
 use Rattle.cache.proofs.L1Cache.cacheable.Tie as tie
 
+within-requires : tie.Need-within-requires
+within-requires c κs = search needs
+
 returns : tie.Need-returns
 unfolding cacheableAt
-returns c = simp (le-leb _ _ (c .before .if1 .taken))
-
-returns-2 : tie.Need-returns-2
-unfolding cacheableAt
-returns-2 c = simp (lt-leb _ _ (c .if1 .left))
+returns c = c .within .ensures
 
 pub cacheable-spec : {M : Type 1} → statement M
-cacheable-spec = tie.close (tie.spec returns returns-2)
+cacheable-spec = tie.close (tie.spec within-requires returns)

@@ -1,23 +1,15 @@
--- `cache::L1Cache::ctrl` meets its contract, by the four cases of the enable bits. Assumes nothing.
+-- `cache::L1Cache::ctrl` meets its contract: the bits are the two banks'. Assumes nothing.
 use borrow.Author.Needs.{needs}
-use Rattle.cache.proofs.Caches.{flag-fits, ctrl-is}
+use Rattle.cache.specs.Cache.{ctrlWord}
 use Rattle.cache.proofs.L1Cache.ctrl.Statement.{statement}
 use Rattle.cache.proofs.L1Cache.ctrl.Tie as tie
 
-cast-result : tie.Need-cast-result
-cast-result c = search needs
-
-mul-result : tie.Need-mul-result
-mul-result c = search (flag-fits, needs)
-
-cast-result-2 : tie.Need-cast-result-2
-cast-result-2 c = search needs
-
-mul-result-2 : tie.Need-mul-result-2
-mul-result-2 c = search (flag-fits, needs)
+ctrl-word-requires : tie.Need-ctrl-word-requires
+ctrl-word-requires c κs = search needs
 
 returns : tie.Need-returns
-returns c = ctrl-is _
+unfolding ctrlWord
+returns c = c .ctrl-word .ensures
 
 pub ctrl-spec : {M : Type 1} → statement M
-ctrl-spec = tie.close (tie.spec cast-result mul-result cast-result-2 mul-result-2 returns)
+ctrl-spec = tie.close (tie.spec ctrl-word-requires returns)

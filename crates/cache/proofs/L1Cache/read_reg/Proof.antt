@@ -1,5 +1,4 @@
--- `cache::L1Cache::read_reg` meets its contract: each arm is the definition's case of its offset. Assumes nothing.
-use borrow.Author.Tests.{ne-eqb}
+-- `cache::L1Cache::read_reg` meets its contract: the register is that of the control word and the two banks' counts. Assumes nothing.
 use borrow.Author.Needs.{needs}
 use Rattle.cache.specs.Cache.{regRead}
 use Rattle.cache.proofs.L1Cache.read_reg.Statement.{statement}
@@ -8,43 +7,12 @@ use Rattle.cache.proofs.L1Cache.read_reg.Tie as tie
 ctrl-requires : tie.Need-ctrl-requires
 ctrl-requires c κs = search needs
 
+register-requires : tie.Need-register-requires
+register-requires c κs = search needs
+
 returns : tie.Need-returns
 unfolding regRead
-returns c = simp (c .match .keys1)
-
-returns-2 : tie.Need-returns-2
-unfolding regRead
-returns-2 c = simp (c .before .match .keys2, c .ctrl .ensures)
-
-returns-3 : tie.Need-returns-3
-unfolding regRead
-returns-3 c = simp (c .match .keys3)
-
-returns-4 : tie.Need-returns-4
-unfolding regRead
-returns-4 c = simp (c .match .keys4)
-
-returns-5 : tie.Need-returns-5
-unfolding regRead
-returns-5 c = simp (c .match .keys5)
-
-returns-6 : tie.Need-returns-6
-unfolding regRead
-returns-6 c = simp (c .match .keys6)
-
-returns-7 : tie.Need-returns-7
-unfolding regRead
-returns-7 c =
-    simp (
-      ne-eqb _ _ (c .match .rest .0 .0 .0 .0 .0 .1),
-      ne-eqb _ _ (c .match .rest .0 .0 .0 .0 .1),
-      ne-eqb _ _ (c .match .rest .0 .0 .0 .1),
-      ne-eqb _ _ (c .match .rest .0 .0 .1),
-      ne-eqb _ _ (c .match .rest .0 .1),
-      ne-eqb _ _ (c .match .rest .1),
-    )
+returns c = cc
 
 pub read-reg-spec : {M : Type 1} → statement M
-read-reg-spec =
-    tie.close
-    (tie.spec ctrl-requires returns returns-2 returns-3 returns-4 returns-5 returns-6 returns-7)
+read-reg-spec = tie.close (tie.spec ctrl-requires register-requires returns)

@@ -24,8 +24,10 @@ same-length-2 c = search needs
 
 returns : tie.Need-returns
 returns c =
-    let a = c .before .before .before .before .before .before .before .before .before .before .before .before .before .before .before .before .args in
-    good-run _ _ _ _ _ _ (a .mem .now) (c .before .before .before .before .before .before .before .new .ensures) (c .before .before .before .before .before .before .before .before .before .before .copy-image .ensures) (c .before .before .before .before .before .before .before .before .before .before .before .before .before .before .before .before .pre) (c .before .before .before .before .run .ensures .1 .1 .0)
+    let run = c .before .before .before .before in
+    let copied = run .before .before .before .before .before .before in
+    let start = copied .before .before .before .before .before .before in
+    good-run _ _ _ _ _ _ (start .args .mem .now) (run .before .before .before .new .ensures) (copied .copy-image .ensures) (start .pre) (run .run .ensures .1 .1 .0)
 
 pub list-good-spec : {M : Type 1} → statement M
 list-good-spec =

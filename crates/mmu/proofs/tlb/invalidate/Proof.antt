@@ -1,7 +1,7 @@
 -- `mmu::tlb::invalidate` meets its contract. The loop's invariant: the entries below `i` are dropped, the others as they were.
 -- Assumes nothing.
 use Prim.Native.Nat.{_≤_, _-_}
-use mathlib.Core.Path.{_≡_, refl, sym, _∙_}
+use mathlib.Core.Path.{_≡_, sym}
 use native.Mathlib.Omega.{arith}
 use borrow.Author.Needs.{needs}
 use lib.ListN.{length}

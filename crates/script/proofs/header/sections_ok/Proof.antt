@@ -4,6 +4,9 @@ use borrow.Author.Needs.{needs}
 use Rattle.script.proofs.header.sections_ok.Statement.{statement}
 use Rattle.script.proofs.header.sections_ok.Tie as tie
 
+header-size-requires : tie.Need-header-size-requires
+header-size-requires c κs = search needs
+
 events-section-requires : tie.Need-events-section-requires
 events-section-requires c κs = search needs
 
@@ -32,6 +35,7 @@ pub sections-ok-spec : {M : Type 1} → statement M
 sections-ok-spec =
     tie.close
     (tie.spec
+    header-size-requires
     events-section-requires
     image-section-requires
     section-ok-requires

@@ -1,24 +1,44 @@
--- `machine::state::Machine::step` meets its contract: an access, or an event that touches no memory. Assumes nothing.
-use Rattle.machine.proofs.Events.{step-access, step-leaves, step-state, step-keeps}
+-- `machine::state::Machine::step` meets its contract: its words are packed, done with where they stand, and unpacked. Assumes nothing.
 use borrow.Author.Needs.{needs}
+use Rattle.machine.proofs.ByValue.{stepped-by-value}
 use Rattle.machine.proofs.state.Machine.step.Statement.{statement}
 use Rattle.machine.proofs.state.Machine.step.Tie as tie
 
-access-event-requires : tie.Need-access-event-requires
-access-event-requires c κs = search needs
+slice-aggregate-pack : tie.Need-slice-aggregate-pack
+slice-aggregate-pack c = search needs
+
+pack-requires : tie.Need-pack-requires
+pack-requires c κs = search needs
+
+slice-aggregate-step : tie.Need-slice-aggregate-step
+slice-aggregate-step c = search needs
+
+step-requires : tie.Need-step-requires
+step-requires c κs = search needs
+
+slice-aggregate-unpack : tie.Need-slice-aggregate-unpack
+slice-aggregate-unpack c = search needs
+
+unpack-requires : tie.Need-unpack-requires
+unpack-requires c κs = search needs
 
 same-length : tie.Need-same-length
 same-length c = search needs
 
 returns : tie.Need-returns
-returns c = (search step-access, search step-leaves)
-
-state-event-requires : tie.Need-state-event-requires
-state-event-requires c κs = search needs
-
-returns-2 : tie.Need-returns-2
-returns-2 c = (search step-state, search step-keeps)
+returns c =
+    let done = c .before .before .before .before .before in
+    stepped-by-value _ _ _ _ _ _ (search needs) (done .before .before .before .before .pack .ensures) (c .unpack .ensures) _ _ _ _ _ (done .step .ensures)
 
 pub step-spec : {M : Type 1} → statement M
 step-spec =
-    tie.close (tie.spec access-event-requires same-length returns state-event-requires returns-2)
+    tie.close
+    (tie.spec
+    slice-aggregate-pack
+    pack-requires
+    slice-aggregate-step
+    step-requires
+    slice-aggregate-unpack
+    unpack-requires
+    same-length
+    returns)

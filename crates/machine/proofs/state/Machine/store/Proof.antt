@@ -1,66 +1,48 @@
--- `machine::state::Machine::store` meets its contract, by what the check permits. Assumes nothing.
-use Rattle.machine.proofs.Accesses.{store-allowed, store-bytes, store-denied, denied-keeps, store-refused, refused-keeps}
+-- `machine::state::Machine::store` meets its contract: its words are packed, done with where they stand, and unpacked. Assumes nothing.
 use borrow.Author.Needs.{needs}
+use Rattle.machine.proofs.ByValue.{accessed-by-value}
 use Rattle.machine.proofs.state.Machine.store.Statement.{statement}
 use Rattle.machine.proofs.state.Machine.store.Tie as tie
 
-check-access-requires : tie.Need-check-access-requires
-check-access-requires c κs = search needs
+slice-aggregate-pack : tie.Need-slice-aggregate-pack
+slice-aggregate-pack c = search needs
 
-enum-told : tie.Need-enum-told
-enum-told c = search needs
+pack-requires : tie.Need-pack-requires
+pack-requires c κs = search needs
 
-with-sys-requires : tie.Need-with-sys-requires
-with-sys-requires c κs = search needs
+slice-aggregate-store : tie.Need-slice-aggregate-store
+slice-aggregate-store c = search needs
 
-write-moved-requires : tie.Need-write-moved-requires
-write-moved-requires c κs = search needs
+store-requires : tie.Need-store-requires
+store-requires c κs = search needs
 
-enum-known-permission : tie.Need-enum-known-permission
-enum-known-permission c = search needs
+slice-aggregate-unpack : tie.Need-slice-aggregate-unpack
+slice-aggregate-unpack c = search needs
 
-denied-requires : tie.Need-denied-requires
-denied-requires c κs = search needs
+unpack-requires : tie.Need-unpack-requires
+unpack-requires c κs = search needs
 
-enum-known-permission-2 : tie.Need-enum-known-permission-2
-enum-known-permission-2 c = search needs
-
-refused-requires : tie.Need-refused-requires
-refused-requires c κs = search needs
+with-machine-requires : tie.Need-with-machine-requires
+with-machine-requires c κs = search needs
 
 same-length : tie.Need-same-length
 same-length c = search needs
 
 returns : tie.Need-returns
-returns c = (search store-allowed, search store-bytes)
-
-same-length-2 : tie.Need-same-length-2
-same-length-2 c = search needs
-
-returns-2 : tie.Need-returns-2
-returns-2 c = (search store-denied, search denied-keeps)
-
-same-length-3 : tie.Need-same-length-3
-same-length-3 c = search needs
-
-returns-3 : tie.Need-returns-3
-returns-3 c = (search store-refused, search refused-keeps)
+returns c =
+    let done = c .before .before .before .before .before .before in
+    accessed-by-value _ _ _ _ _ _ (search needs) (done .before .before .before .before .pack .ensures) (c .before .unpack .ensures) _ _ _ _ _ _ _ _ _ (done .store .ensures) (c .with-machine .ensures)
 
 pub store-spec : {M : Type 1} → statement M
 store-spec =
     tie.close
     (tie.spec
-    check-access-requires
-    enum-told
-    with-sys-requires
-    write-moved-requires
-    enum-known-permission
-    denied-requires
-    enum-known-permission-2
-    refused-requires
+    slice-aggregate-pack
+    pack-requires
+    slice-aggregate-store
+    store-requires
+    slice-aggregate-unpack
+    unpack-requires
+    with-machine-requires
     same-length
-    returns
-    same-length-2
-    returns-2
-    same-length-3
-    returns-3)
+    returns)

@@ -12,6 +12,9 @@ use Rattle.mmu.proofs.vm.Vm.check_page.Tie as tie
 fault-requires : tie.Need-fault-requires
 fault-requires c κs = search needs
 
+found-requires : tie.Need-found-requires
+found-requires c κs = search needs
+
 returns : tie.Need-returns
 returns c = search page-reserved
 
@@ -36,6 +39,9 @@ element-copy-out-entry c =
 judge-requires : tie.Need-judge-requires
 judge-requires c κs = search needs
 
+found-requires-2 : tie.Need-found-requires-2
+found-requires-2 c κs = search needs
+
 enum-told : tie.Need-enum-told
 enum-told c = search needs
 
@@ -53,12 +59,14 @@ check-page-spec =
     tie.close
     (tie.spec
     fault-requires
+    found-requires
     returns
     lookup-requires
     enum-known-slot
     mul-entry
     element-copy-out-entry
     judge-requires
+    found-requires-2
     enum-told
     check-walk-requires
     returns-2

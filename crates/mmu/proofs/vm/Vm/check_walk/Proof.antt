@@ -16,14 +16,23 @@ fill-requires c κs = search needs
 judge-requires : tie.Need-judge-requires
 judge-requires c κs = search needs
 
+found-requires : tie.Need-found-requires
+found-requires c κs = search needs
+
 enum-told : tie.Need-enum-told
 enum-told c = search needs
 
 fault-requires : tie.Need-fault-requires
 fault-requires c κs = search needs
 
+found-requires-2 : tie.Need-found-requires-2
+found-requires-2 c κs = search needs
+
 enum-told-2 : tie.Need-enum-told-2
 enum-told-2 c = search needs
+
+found-requires-3 : tie.Need-found-requires-3
+found-requires-3 c κs = search needs
 
 returns : tie.Need-returns
 returns c = search walk-leaf
@@ -42,9 +51,12 @@ check-walk-spec =
     enum-known-walked
     fill-requires
     judge-requires
+    found-requires
     enum-told
     fault-requires
+    found-requires-2
     enum-told-2
+    found-requires-3
     returns
     returns-2
     returns-3)

@@ -4,35 +4,14 @@ use Rattle.privilege.proofs.States.{status-is}
 use Rattle.privilege.proofs.state.SystemState.status.Statement.{statement}
 use Rattle.privilege.proofs.state.SystemState.status.Tie as tie
 
-bit-if-requires : tie.Need-bit-if-requires
-bit-if-requires c κs = search needs
-
-bit-if-requires-2 : tie.Need-bit-if-requires-2
-bit-if-requires-2 c κs = search needs
-
-bit-if-requires-3 : tie.Need-bit-if-requires-3
-bit-if-requires-3 c κs = search needs
-
-bit-if-requires-4 : tie.Need-bit-if-requires-4
-bit-if-requires-4 c κs = search needs
-
 is-short-requires : tie.Need-is-short-requires
 is-short-requires c κs = search needs
 
-bit-if-requires-5 : tie.Need-bit-if-requires-5
-bit-if-requires-5 c κs = search needs
+status-word-requires : tie.Need-status-word-requires
+status-word-requires c κs = search needs
 
 returns : tie.Need-returns
 returns c = search status-is
 
 pub status-spec : {M : Type 1} → statement M
-status-spec =
-    tie.close
-    (tie.spec
-    bit-if-requires
-    bit-if-requires-2
-    bit-if-requires-3
-    bit-if-requires-4
-    is-short-requires
-    bit-if-requires-5
-    returns)
+status-spec = tie.close (tie.spec is-short-requires status-word-requires returns)

@@ -1,0 +1,5 @@
+pub mod Banks
+pub mod Numbers
+pub mod Permits
+pub mod States
+pub mod Tables

@@ -1,0 +1,54 @@
+-- `privilege::flat::state::reset` meets its contract: its words are those of the new state. Assumes nothing.
+use Rattle.privilege.proofs.flat.States.{wholes}
+use borrow.Author.Needs.{needs}
+use Rattle.privilege.proofs.flat.state.reset.Statement.{statement}
+use Rattle.privilege.proofs.flat.state.reset.Tie as tie
+
+returns : tie.Need-returns
+returns c = search (wholes, needs)
+
+array-write-fresh : tie.Need-array-write-fresh
+array-write-fresh c = search needs
+
+array-write-fresh-2 : tie.Need-array-write-fresh-2
+array-write-fresh-2 c = search needs
+
+mul-copy : tie.Need-mul-copy
+mul-copy c = search needs
+
+sub-copy : tie.Need-sub-copy
+sub-copy c = search needs
+
+part-copy-start : tie.Need-part-copy-start
+part-copy-start c = search needs
+
+part-copy-end : tie.Need-part-copy-end
+part-copy-end c = search needs
+
+slice-aggregate-copy : tie.Need-slice-aggregate-copy
+slice-aggregate-copy c = search needs
+
+copy-requires : tie.Need-copy-requires
+copy-requires c κs = search needs
+
+same-length : tie.Need-same-length
+same-length c = search needs
+
+returns-2 : tie.Need-returns-2
+returns-2 c = search (wholes, needs)
+
+pub reset-spec : {M : Type 1} → statement M
+reset-spec =
+    tie.close
+    (tie.spec
+    returns
+    array-write-fresh
+    array-write-fresh-2
+    mul-copy
+    sub-copy
+    part-copy-start
+    part-copy-end
+    slice-aggregate-copy
+    copy-requires
+    same-length
+    returns-2)
