@@ -11,7 +11,7 @@ use Rattle.memory.specs.Memory.{Memory}
 use Rattle.mmu.specs.Tlb.{noEntry}
 use Rattle.mmu.specs.Vm.{filled, slotOf, frameOf}
 use Rattle.mmu.specs.Walk.{walkOf}
-use Rattle.mmu.specs.Check.Laws.{page-reads, allowed-low}
+use Rattle.mmu.specs.Check.Laws.{page-reads, next-number}
 use Rattle.mmu.specs.Check.{pageAddr, checked, faulted, judged, byWalk, bySlot, checkWith, checkPage, afterPage, checkEach, pagesAfter, lastPage, pagesTo, pagesOf}
 use Rattle.mmu.specs.declared.tlb.TlbEntry.{TlbEntry}
 use Rattle.mmu.specs.declared.tlb.Slot.{Slot}
@@ -106,9 +106,7 @@ module _ (m : Memory) (k : Access) (addr size : ℕ) (v₀ v : Vm) (page va n : 
 
     -- an allowed page lies below the reserved ones: the next number is one of a page
     pub next-low : va / 4096 ≡ page → page + 1 < 2 ^ 20
-    next-low here =
-        let l = allowed-low m v k va (rw is at a) in
-        omega arith
+    next-low here = rw here at (next-number m v k va (rw here h) (rw is at a))
 
     pub next-page : va / 4096 ≡ page → pageAddr (page + 1) / 4096 ≡ page + 1
     next-page here = omega (arith, next-low here)
@@ -120,9 +118,6 @@ module _ (m : Memory) (k : Access) (addr size : ℕ) (v₀ v : Vm) (page va n : 
         rw more at p ∙ rw (← is, a, add-assoc)
 
 pub ruleset steps = (reads-fit, reads-few, each-denied, each-last, next-low, next-page, each-more)
-
-pub no-wrap : (page r : ℕ) → page < 2 ^ 20 → r ≡ (page + 1) % 2 ^ 32 → r ≡ 0 → ⊥
-no-wrap page r h e z = omega arith
 
 -- the last byte's page, as the code computes it
 less-one : (size s : ℕ) → s < 2 ^ 32 → (s + 1) % 2 ^ 32 ≡ size → (size + (2 ^ 32 - 1)) % 2 ^ 32 ≡ s

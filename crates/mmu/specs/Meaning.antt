@@ -7,6 +7,7 @@ use Prim.Native.Nat.{ℕ, _+_, _*_, _/_, _%_, _^_, _≤_, _<_}
 use mathlib.Core.Path.{_≡_}
 use mathlib.Core.Bool.{true}
 use mathlib.Core.List.{List}
+use mathlib.Core.Logic.{_≢_}
 use lib.Dec.{eqb}
 use lib.ListN.{length, getD, set}
 use Rattle.memory.specs.Memory.{Memory}
@@ -40,6 +41,8 @@ pub record Meaning : Type 0 where
   -- "Then U, the access bit and a physical page below 0xFFFF0000 are needed": of an allowed page the TLB then holds such an entry
   pub allowed : (m : Memory) (vm : Vm) (k : Access) (va : ℕ) → va < 2 ^ 32 → length (vm .tlb) ≡ 16 → checkPage m vm k va .verdict ≡ Allowed
       → Passed m vm k va (checkPage m vm k va)
+  -- W-207: the page loop goes on after an allowed page alone, whose next number is never 0
+  pub goes-on : (m : Memory) (vm : Vm) (k : Access) (va : ℕ) → va < 2 ^ 32 → checkPage m vm k va .verdict ≡ Allowed → (va / 4096 + 1) % 2 ^ 32 ≢ 0
   -- "Walk reads (added) are at most 2 for each page, a failed one included"
   pub few-reads : (m : Memory) (vm : Vm) (k : Access) (va : ℕ) → checkPage m vm k va .reads ≤ 2
   pub few-reads-each : (m : Memory) (k : Access) (vm : Vm) (l : List ℕ) → checkEach m k vm l .reads ≤ 2 * length l

@@ -122,9 +122,6 @@ impl Vm {
             if page == last {
                 break found(vm, Verdict::Allowed, reads);
             }
-            if std::num::wrapping_add_u32(page, 1) == 0 {
-                break found(vm, Verdict::Allowed, reads);
-            }
             page += 1;
             va = page << 12;
         }

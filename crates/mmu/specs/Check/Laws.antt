@@ -2,8 +2,9 @@
 --
 --   walk-reads, page-reads    == at most two words are read for a page
 --   allowed-low               == an allowed page lies below the reserved addresses
+--   next-number, next-not-zero == so the number after an allowed page's is a page's, and is not 0
 --   permits-bits              == an entry of a low frame permits what its bits say
-use Prim.Native.Nat.{ℕ, _/_, _≤_, _<_}
+use Prim.Native.Nat.{ℕ, _+_, _/_, _%_, _^_, _≤_, _<_}
 use mathlib.Core.Path.{_≡_}
 use mathlib.Core.Bool.{_&&_, and-true}
 use native.Mathlib.Omega.{arith}
@@ -68,6 +69,14 @@ allowed-low m vm k va =
     cond-case (λ (c : Checked). c .verdict ≡ Allowed → pageAddr (va / 4096) < 0xFFFF_0000) (belowReserved (pageAddr (va / 4096)))
     (λ t p. ltb-true (pageAddr (va / 4096)) 0xFFFF_0000 t)
     (λ t p. absurd-eq (cc))
+
+-- the page loop comes to the next page only after an allowed one
+module _ (m : Memory) (vm : Vm) (k : Access) (va : ℕ) (small : va / 4096 < 2 ^ 20) (a : checkPage m vm k va .verdict ≡ Allowed) where
+  pub next-number : va / 4096 + 1 < 2 ^ 20
+  next-number = let l = allowed-low m vm k va a in omega arith
+
+  pub next-not-zero : (va / 4096 + 1) % 2 ^ 32 ≡ 0 → ⊥
+  next-not-zero z = omega (arith, next-number)
 
 pub permits-bits : (e : TlbEntry) (k : Access) → e .ppn < 0xFFFF0 → permits e k ≡ (bitSet (e .flags) 4 && bitSet (e .flags) (accessBit k))
 unfolding permits

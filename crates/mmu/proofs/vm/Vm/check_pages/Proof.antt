@@ -1,11 +1,11 @@
 -- `mmu::vm::Vm::check_pages` meets its contract. The loop's invariant: the whole check is the check from the present page on, after the
--- reads made so far. An allowed page lies below the reserved ones, so the next page's number is never 0 and the loop ends.
+-- reads made so far. The number after an allowed page's is a page's (`next-number`, by `steps`), so the loop comes to the last page.
 -- Assumes nothing.
 use Prim.Native.Nat.{_≤_, _<_, _-_, _*_, _/_, _^_}
 use mathlib.Core.Path.{_≡_, refl}
 use Rattle.memory.specs.Memory.{lent}
 use Rattle.mmu.specs.Check.{lastPage}
-use Rattle.mmu.proofs.Pages.{From, from-start, last-is, no-wrap, steps}
+use Rattle.mmu.proofs.Pages.{From, from-start, last-is, steps}
 use borrow.Author.Needs.{needs}
 use Rattle.mmu.proofs.vm.Vm.check_pages.Statement.{statement}
 use Rattle.mmu.proofs.vm.Vm.check_pages.Tie as tie
@@ -49,12 +49,6 @@ enum-told c = search needs
 found-requires-2 : tie.Need-found-requires-2 Inv-loop μ-loop
 found-requires-2 c κs = search needs
 
-wrapping-add-u32-requires-2 : tie.Need-wrapping-add-u32-requires-2 Inv-loop μ-loop
-wrapping-add-u32-requires-2 c κs = search needs
-
-found-requires-3 : tie.Need-found-requires-3 Inv-loop μ-loop
-found-requires-3 c κs = search needs
-
 add-page : tie.Need-add-page Inv-loop μ-loop
 add-page c = search needs
 
@@ -69,9 +63,6 @@ returns c = search (steps, needs)
 
 returns-2 : tie.Need-returns-2 Inv-loop μ-loop
 returns-2 c = search (steps, needs)
-
-returns-3 : tie.Need-returns-3 Inv-loop μ-loop
-returns-3 c = absurd (search (no-wrap, needs))
 
 pub check-pages-spec : {M : Type 1} → statement M
 check-pages-spec =
@@ -88,11 +79,8 @@ check-pages-spec =
     found-requires
     enum-told
     found-requires-2
-    wrapping-add-u32-requires-2
-    found-requires-3
     add-page
     loop-less
     loop-again
     returns
-    returns-2
-    returns-3)
+    returns-2)
