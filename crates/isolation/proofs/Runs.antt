@@ -1,21 +1,20 @@
 -- Runs of any length, by one access after the other. Assumes nothing.
 use Prim.Native.Nat.{ℕ}
-use mathlib.Core.Path.{_≡_, refl, sym, ap, ap₂, _∙_}
-use mathlib.Core.Bool.{Bool, true, false}
+use mathlib.Core.Path.{_≡_, refl, ap₂, _∙_}
+use mathlib.Core.Bool.{Bool, false}
 use mathlib.Core.List.{List, [], _∷_}
 use lib.Dec.{eqb}
 use borrow.Author.Tests.{eqb-true, eqb-false}
 use Rattle.common.specs.Cases.{absurd-eq}
 use Rattle.memory.specs.Memory.{Memory, byteAt}
 use Rattle.memory.specs.Memory.Laws.{same-map}
-use Rattle.mmu.specs.Opened.{TableByte, Opened}
-use Rattle.mmu.specs.declared.exception.Access.{Access}
+use Rattle.mmu.specs.Opened.{Opened}
 use Rattle.mmu.specs.declared.exception.Access.the-variants.{Write}
 use Rattle.mmu.specs.declared.vm.Vm.{Vm}
 use Rattle.machine.specs.declared.state.Machine.{Machine}
 use Rattle.isolation.specs.Premises.{Op, AllAligned, InUserMode, Sixteen, Alike, Sealed}
-use Rattle.isolation.specs.Demand3.{Answer, Ran, resultOf, answerOf, before, ranOps, Isolated, Demand3, TablesShut, Integrity, Confidentiality}
-use Rattle.isolation.proofs.Steps.{Held, held}
+use Rattle.isolation.specs.Demand3.{Answer, resultOf, ranOps, Isolated, Demand3, TablesShut, Integrity, Confidentiality}
+use Rattle.isolation.proofs.Steps.{held}
 
 isolated : (hidden : ℕ → Bool) (os : List Op) (M : Machine) (m m′ : Memory) → AllAligned os → InUserMode M → Sixteen M → Alike hidden m m′ → Sealed hidden m (M .sys .vm)
     → Isolated hidden m m′ (ranOps os M m) (ranOps os M m′)

@@ -1,10 +1,9 @@
 -- One access of two runs. Assumes nothing.
-use Prim.Native.Nat.{ℕ, _/_, _%_, _^_, _<_}
-use mathlib.Core.Path.{_≡_, refl, sym, ap, _∙_, subst}
+use Prim.Native.Nat.{ℕ, _%_, _^_, _<_}
+use mathlib.Core.Path.{_≡_, refl, sym, ap, _∙_}
 use mathlib.Core.Bool.{Bool, true, false}
-use mathlib.Core.List.{List, [], _∷_}
+use mathlib.Core.List.{List}
 use mathlib.Core.Logic.{_≢_}
-use lib.ListN.{length}
 use Rattle.common.specs.Cases.{absurd-eq}
 use Rattle.common.specs.Lists.{Each, each-map}
 use Rattle.common.specs.declared.Refusal.{Refusal}
@@ -20,8 +19,7 @@ use Rattle.mmu.specs.declared.exception.Exception.{Exception}
 use Rattle.mmu.specs.declared.vm.Vm.{Vm}
 use Rattle.privilege.specs.Access.{checkAccess}
 use Rattle.privilege.specs.Confined.{Running, Refills, tables-check, check-refills, aligned-open}
-use Rattle.privilege.specs.State.{withVm}
-use Rattle.privilege.specs.Transfer.{spots, dataRead, dataWritten, memoryAfter}
+use Rattle.privilege.specs.Transfer.{spots, memoryAfter}
 use Rattle.privilege.specs.Transfer.Laws.{load-same, store-same, store-map, store-both, store-other}
 use Rattle.privilege.specs.declared.check.AccessChecked.{AccessChecked}
 use Rattle.privilege.specs.declared.check.Permission.{Permission}
@@ -35,7 +33,7 @@ use Rattle.machine.specs.State.{withSys, withCache}
 use Rattle.machine.specs.declared.access.Accessed.{Accessed}
 use Rattle.machine.specs.declared.state.Machine.{Machine}
 use Rattle.isolation.specs.Premises.{Op, Aligned, InUserMode, Sixteen, Alike, Sealed}
-use Rattle.isolation.specs.Demand3.{Answer, resultOf, answerOf, Keeps}
+use Rattle.isolation.specs.Demand3.{resultOf, answerOf, Keeps}
 
 -- what one access of two runs leaves, and that the next one may follow
 pub record Held (hidden : ℕ → Bool) (vm : Vm) (m m′ : Memory) (r r′ : Result) : Type 0 where

@@ -10,7 +10,7 @@
 --   Confidentiality       == a user's run shows nothing of a byte that lies in no page open to it and in no table
 use Prim.Native.Nat.{ℕ}
 use mathlib.Core.Path.{_≡_}
-use mathlib.Core.Bool.{Bool, true, false}
+use mathlib.Core.Bool.{Bool, true}
 use mathlib.Core.List.{List, [], _∷_}
 use mathlib.Core.Logic.{_≢_}
 use Rattle.memory.specs.Memory.{Memory, byteAt}

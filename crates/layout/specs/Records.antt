@@ -3,14 +3,14 @@
 --   recordsOf f k n l   == the n records of the words l, each made by f of its k words
 --   records-get         == record i of them is f of its own words
 --   records-set         == a word set in record i sets that record and no other
-use Prim.Native.Nat.{ℕ, zero, suc, _+_, _*_, _≤_, _<_}
-use mathlib.Core.Path.{_≡_, refl, sym, ap, _∙_}
+use Prim.Native.Nat.{ℕ, zero, suc, _+_, _*_, _<_}
+use mathlib.Core.Path.{_≡_, refl, ap, _∙_}
 use mathlib.Core.List.{List, [], _∷_}
 use native.Mathlib.Nat.{le-of-suc-le-suc, not-suc-le-zero}
 use native.Mathlib.Omega.{arith}
 use lib.ListN.{length, getD, set, take, drop}
 use lib.Seq.{drop-drop, take-set-lt, take-set-le, drop-set-lt, drop-set-add}
-use Rattle.layout.specs.Words.{part, part-set-in, part-set-above}
+use Rattle.layout.specs.Words.{part}
 
 unfoldable pub recordsOf : {A : Type 0} → (List ℕ → A) → ℕ → ℕ → List ℕ → List A
 recordsOf f k zero l = []

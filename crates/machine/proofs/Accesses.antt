@@ -2,7 +2,7 @@
 use Prim.Native.Nat.{ℕ, zero, suc, _+_, _%_, _^_, _≤_, _<_}
 use mathlib.Core.Path.{_≡_, refl, sym, ap, _∙_}
 use mathlib.Core.Bool.{Bool, true}
-use mathlib.Core.List.{List, _∷_}
+use mathlib.Core.List.{List}
 use native.Mathlib.Omega.{arith}
 use lib.Dec.{eqb}
 use lib.ListN.{length}
@@ -10,7 +10,6 @@ use borrow.Author.Tests.{ne-eqb}
 use Rattle.cache.specs.Cache.{loaded, fetched, stored}
 use Rattle.cache.specs.Flat.{cacheWords, cacheAt, Costs, Changes}
 use Rattle.cache.specs.declared.CacheAccess.{CacheAccess}
-use Rattle.cache.specs.declared.L1Cache.{L1Cache}
 use Rattle.common.specs.Cases.{cond-holds}
 use Rattle.common.specs.declared.Refusal.{Refusal}
 use Rattle.layout.specs.Words.{part, put}
@@ -22,7 +21,7 @@ use Rattle.mmu.specs.declared.exception.Access.the-variants.{Read, Write, Fetch
 use Rattle.mmu.specs.declared.exception.Exception.{Exception}
 use Rattle.privilege.specs.Access.{checkAccess}
 use Rattle.privilege.specs.Access.Laws.{refused-nothing, allowed-size}
-use Rattle.privilege.specs.Flat.{systemWords, sysAt, regAt}
+use Rattle.privilege.specs.Flat.{systemWords}
 use Rattle.privilege.specs.Flat.Access.{permitOf, Permits as SysPermits}
 use Rattle.privilege.specs.Flat.Access.Laws.{permit-pa, permit-spots}
 use Rattle.privilege.specs.Rows.{rowsOf}
@@ -42,8 +41,8 @@ use Rattle.script.specs.declared.Event.{Event}
 use Rattle.machine.specs.Access.{Result, isRead, accessAnswer, presented, asked, readOutcome, writeOutcome, moved, permitted, lookedUp, accessOf}
 use Rattle.machine.specs.Access.Laws.{asked-first, read-moved, write-moved, access-allowed, access-denied, access-refused, access-keeps}
 use Rattle.machine.specs.Event.{accessKind, storedBy}
-use Rattle.machine.specs.Flat.{cacheFrom, stateWords, machineAt, Left, answerOf, accessedAs, Asks, Permits, checkedIn, ReadsPermitted, WritesPermitted, Accesses, AccessesAny, noAnswer}
-use Rattle.machine.specs.State.{withSys, withReg, withCache}
+use Rattle.machine.specs.Flat.{cacheFrom, stateWords, machineAt, answerOf, accessedAs, Asks, Permits, checkedIn, ReadsPermitted, WritesPermitted, Accesses, AccessesAny, noAnswer}
+use Rattle.machine.specs.State.{withSys, withCache}
 use Rattle.machine.specs.declared.access.Accessed.{Accessed}
 use Rattle.machine.specs.declared.access.Outcome.{Outcome}
 use Rattle.machine.specs.declared.access.Outcome.the-variants as outcome

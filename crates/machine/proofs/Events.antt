@@ -3,7 +3,6 @@ use Prim.Native.Nat.{ℕ, _+_, _%_, _≤_, _<_}
 use mathlib.Core.Path.{_≡_, refl, sym, ap, _∙_}
 use mathlib.Core.Bool.{true, false, not}
 use mathlib.Core.List.{List}
-use native.Mathlib.Omega.{arith}
 use lib.Dec.{eqb}
 use lib.ListN.{length, set}
 use borrow.Author.Tests.{ne-eqb, lt-ltb, le-ltb}
@@ -16,17 +15,15 @@ use Rattle.common.specs.declared.Refusal.the-variants as refusal
 use Rattle.irqc.specs.Irqc.{newController, sourceSet, pendingCleared, maskSet, outputOf}
 use Rattle.irqc.specs.declared.IrqController.{IrqController}
 use Rattle.irqc.specs.declared.IrqOutput.{IrqOutput}
-use Rattle.layout.specs.Words.{part, put, Over, Reads}
+use Rattle.layout.specs.Words.{part, put, Reads}
 use Rattle.listing.specs.Listing.{line}
 use Rattle.listing.specs.declared.Line.{Line}
 use Rattle.memory.specs.Memory.{lent}
 use Rattle.mmu.specs.Exception.{causeOf}
 use Rattle.mmu.specs.declared.exception.Exception.{Exception}
 use Rattle.privilege.specs.Flat.{systemWords, sysAt, regAt, Traps, Returns, ReadsSr, WritesSr, Comes}
-use Rattle.privilege.specs.Registers.{srRead, srWritten}
 use Rattle.privilege.specs.Registers.Laws.{write-refused}
 use Rattle.privilege.specs.State.{newState, modeOf}
-use Rattle.privilege.specs.Trap.{trapped, returned}
 use Rattle.privilege.specs.declared.flat.traps.Resumed.{Resumed}
 use Rattle.privilege.specs.declared.registers.SrRead.{SrRead}
 use Rattle.privilege.specs.declared.registers.SrRead.the-variants as srread
@@ -34,16 +31,14 @@ use Rattle.privilege.specs.declared.registers.SrAnswer.{SrAnswer}
 use Rattle.privilege.specs.declared.registers.SrAnswer.the-variants as sranswer
 use Rattle.privilege.specs.declared.registers.SrWritten.{SrWritten}
 use Rattle.privilege.specs.declared.state.InstructionMode.{InstructionMode}
-use Rattle.privilege.specs.declared.state.SystemState.{SystemState}
 use Rattle.privilege.specs.declared.trap.Returned.{Returned}
 use Rattle.privilege.specs.declared.trap.Trapped.{Trapped}
 use Rattle.script.specs.declared.Event.{Event}
-use Rattle.machine.specs.Event.{lineOf, showing, refusing, shows, refuses, shown, accessKind, storedBy, accessEvent, trapEvent, returnEvent, readEvent, writeEvent, registerEvent, stateEvent, stepOf}
-use Rattle.machine.specs.Flat.{cacheFrom, stateWords, machineAt, Left, steppedAs, Shows, Accesses, Steps, StepsAny, noLine}
+use Rattle.machine.specs.Event.{lineOf, showing, refusing, shows, shown, accessKind, storedBy, accessEvent, trapEvent, returnEvent, readEvent, writeEvent, registerEvent, stateEvent, stepOf}
+use Rattle.machine.specs.Flat.{cacheFrom, stateWords, machineAt, Left, Shows, Accesses, Steps, StepsAny, noLine}
 use Rattle.machine.specs.State.{withReg, withCache, withIrqc, resetOf}
 use Rattle.machine.specs.declared.access.Outcome.{Outcome}
 use Rattle.machine.specs.declared.access.Outcome.the-variants.{Value, Exception as Raised, BusError, Refused}
-use Rattle.machine.specs.declared.event.Stepped.{Stepped}
 use Rattle.machine.specs.declared.flat.access.Answer.{Answer}
 use Rattle.machine.specs.declared.state.Machine.{Machine}
 use Rattle.machine.proofs.Words.{sys-long, cache-long, sys-left, sys-put, cache-left, cache-put}

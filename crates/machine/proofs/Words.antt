@@ -1,11 +1,12 @@
 -- The machine's words: what a part that comes back changed makes of the machine. Assumes nothing.
 --
---   long-part             == a part of the machine's words has its length
+--   sys-long, cache-long  == a part of the machine's words has its length
+--   sys-left, cache-left  == and leaves as many words as there were
 --   sys-put, cache-put    == other words of the privilege state, or of the cache
---   irqc-put              == other words of the controller
---   irqc-read             == the controller of its words
+--   irqc-read, irqc-put   == the controller of its words, and other words of it
+--   packed, unpacked      == the words of a machine by value, and the machine of its words
 use Prim.Native.Nat.{ℕ, _+_, _%_, _^_, _≤_, _<_}
-use mathlib.Core.Path.{_≡_, refl, sym, ap, _∙_}
+use mathlib.Core.Path.{_≡_, refl, sym, _∙_}
 use mathlib.Core.List.{List}
 use native.Mathlib.Omega.{arith}
 use lib.ListN.{length, getD, set, length-set}

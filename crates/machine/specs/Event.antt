@@ -11,8 +11,7 @@
 --
 -- "Unnamed fields are ignored." A size is the event's byte, any number. A source's number has all 16 bits of aux.
 use Prim.Native.Nat.{ℕ, _+_, _%_}
-use mathlib.Core.Bool.{Bool, true, false, cond, not}
-use mathlib.Core.List.{List}
+use mathlib.Core.Bool.{cond, not}
 use lib.Dec.{eqb, ltb}
 use lib.ListN.{set}
 use Rattle.cache.specs.Cache.{externalWritten, regRead, regWritten}

@@ -27,7 +27,6 @@ use Rattle.mmu.specs.declared.exception.Access.the-variants.{Write}
 use Rattle.privilege.specs.Access.{checkAccess}
 use Rattle.privilege.specs.Flat.{systemWords, sysAt, regAt}
 use Rattle.privilege.specs.Flat.Access.{permitOf}
-use Rattle.privilege.specs.declared.check.AccessChecked.{AccessChecked}
 use Rattle.privilege.specs.declared.flat.access.Permit.{Permit}
 use Rattle.privilege.specs.declared.state.SystemState.{SystemState}
 use Rattle.script.specs.declared.Event.{Event}

@@ -6,8 +6,7 @@
 --   scriptRun s h         == a good script's run: a new machine over the image
 --   listingOf s           == what a script prints: its run's lines and the last line, or only `refused` and its number
 use Prim.Native.Nat.{ℕ}
-use mathlib.Core.List.{List, [], _∷_, _++_}
-use lib.ListN.{length}
+use mathlib.Core.List.{List, [], _∷_}
 use Rattle.common.specs.Refusal.{refusalNumber}
 use Rattle.listing.specs.Listing.{listingText, refusedText}
 use Rattle.listing.specs.declared.Line.{Line}
@@ -19,7 +18,7 @@ use Rattle.script.specs.Image.{bytesFrom}
 use Rattle.script.specs.declared.header.Header.{Header}
 use Rattle.script.specs.declared.header.Script.{Script}
 use Rattle.script.specs.declared.header.Script.the-variants.{Good, Refused}
-use Rattle.machine.specs.Event.{Step, stepOf}
+use Rattle.machine.specs.Event.{stepOf}
 use Rattle.machine.specs.State.{newMachine}
 use Rattle.machine.specs.declared.state.Machine.{Machine}
 pub mod Laws

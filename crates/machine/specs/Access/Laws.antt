@@ -6,10 +6,10 @@
 --   access-read, access-written        == the same of a load or fetch, and of a store
 --   access-keeps                       == a load or fetch leaves memory, whatever the check says
 --   access-base                        == every access leaves the map's base
-use Prim.Native.Nat.{ℕ, _+_}
+use Prim.Native.Nat.{ℕ}
 use mathlib.Core.Path.{_≡_, refl, ap, _∙_}
-use mathlib.Core.Bool.{Bool, true, false}
-use mathlib.Core.List.{List, [], _∷_}
+use mathlib.Core.Bool.{true}
+use mathlib.Core.List.{List, _∷_}
 use native.Mathlib.Nat.{add-zero}
 use Rattle.cache.specs.declared.CacheAccess.{CacheAccess}
 use Rattle.cache.specs.declared.L1Cache.{L1Cache}

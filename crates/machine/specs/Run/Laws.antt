@@ -10,8 +10,8 @@ use lib.ListN.{length}
 use Rattle.memory.specs.Memory.{Memory}
 use Rattle.script.specs.Event.{eventAt, eventsFrom, events-none, events-next}
 use Rattle.script.specs.declared.Event.{Event}
-use Rattle.machine.specs.Event.{Step, stepOf}
-use Rattle.machine.specs.Run.{Run, after, runOver, runFrom}
+use Rattle.machine.specs.Event.{stepOf}
+use Rattle.machine.specs.Run.{after, runOver, runFrom}
 use Rattle.machine.specs.declared.state.Machine.{Machine}
 
 pub over-none : (M : Machine) (m : Memory) → runOver [] M m ≡ record { machine = M; memory = m; lines = [] }

@@ -1,4 +1,4 @@
-// The combined access where the machine's words stand: check; the cache at each line that the access presents; memory.
+// The combined access where the machine's words stand: check; the cache once, at the first byte's physical address; memory.
 ghost use mathlib.Core.Path.{_≡_};
 ghost use mathlib.Core.Bool.{true};
 ghost use lib.ListN.{length};
