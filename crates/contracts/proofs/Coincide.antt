@@ -1,12 +1,14 @@
 -- Each contract is settled, by its shape (`Shapes.antt`).
 use mathlib.Core.Bool.{true, false, false≢true}
-use mathlib.Core.Path.{refl, sym, ap, _∙_}
+use mathlib.Core.Path.{_≡_, refl, sym, ap, _∙_}
 use mathlib.Core.List.{List}
 use Prim.Native.Nat.{ℕ}
 use Rattle.cache.specs.declared.CacheAccess.{CacheAccess}
+use Rattle.common.specs.declared.Refusal.{Refusal}
 use Rattle.contracts.proofs.Shapes.{answer, content, both, text, next}
 use Rattle.contracts.proofs.Words.{same-words, words, beside, memory, two, pair, reads, pages-same, access-same, step-same, run-same, open-words}
 use Rattle.machine.specs.declared.flat.run.Listed.{Listed}
+use Rattle.memory.specs.Gate.{Gate, Refused}
 use Rattle.privilege.specs.declared.registers.SrWritten.{SrWritten}
 use Rattle.privilege.specs.declared.trap.Returned.{Returned}
 use Rattle.privilege.specs.declared.trap.Trapped.{Trapped}
@@ -26,6 +28,10 @@ use Rattle.contracts.specs.Listing.{Listing}
 use Rattle.contracts.specs.Machine.{Machine, MachineFlat}
 use Rattle.contracts.specs.Bridge.{Bridge, BridgeLent}
 use Rattle.contracts.specs.Race.{Race}
+
+-- one refusal stops a call
+refused-same : {r r′ : Refusal} {g : Gate} → Refused r ≡ g → Refused r′ ≡ g → r ≡ r′
+refused-same {r = r} {r′ = r′} p q = let z : Refused r ≡ Refused r′ = p ∙ sym q in cc
 
 common-settled : Common
 common-settled = search answer
@@ -89,6 +95,8 @@ memory-settled : Memory
 memory-settled = record {
   good-range = record { coincide = answer };
   good-map = record { coincide = answer };
+  is-open = record { coincide = answer };
+  refusal = record { coincide = λ p q. answer (refused-same p q) refl };
   read-byte = record { coincide = answer };
   read-word = record { coincide = answer };
   put-byte = record { coincide = both };

@@ -5,6 +5,8 @@ use Rattle.memory.proofs as memory
 pub record Memory : Type 0 where
   pub good-range : Settled memory.good_range.ended memory.good_range.Reads.Learnt
   pub good-map : Settled memory.good_map.ended memory.good_map.Reads.Learnt
+  pub is-open : Settled memory.gate.is_open.ended memory.gate.is_open.Reads.Learnt
+  pub refusal : Settled memory.gate.refusal.ended memory.gate.refusal.Reads.Learnt
   pub read-byte : Settled memory.read_byte.ended memory.read_byte.Reads.Learnt
   pub read-word : Settled memory.read_word.ended memory.read_word.Reads.Learnt
   pub put-byte : Settled memory.put_byte.ended memory.put_byte.Reads.Learnt

@@ -70,7 +70,7 @@ module _ (base : ℕ) (bytes : List ℕ) (a n pa pb : ℕ) where
   pub read-word-is : (good : Bool) (x : Content) (v : ℕ) → n ≡ 4 → a % 4096 ≤ 4092 → good ≡ goodMap base (length bytes) → good ≡ true
       → x ≡ readAt (lent base bytes) (wordSpots pa) → x ≡ content.Value v → outcome.Value v ≡ readOutcome (loadAt (lent base bytes) n (rowsOf a n pa pb))
   unfolding readOutcome
-  read-word-is good x v e page g t h q = rw (e, load-word (lent base bytes) a pa pb v (sym g ∙ t) page (sym h ∙ q))
+  read-word-is good x v e page is t h q = rw (e, load-word (lent base bytes) a pa pb v (sym is ∙ t) page (sym h ∙ q))
 
   pub read-rows-is : (d : DataRead) (o : Outcome) → d ≡ loadAt (lent base bytes) n (rowsOf a n pa pb) → o ≡ readOutcome d
       → o ≡ readOutcome (loadAt (lent base bytes) n (rowsOf a n pa pb))

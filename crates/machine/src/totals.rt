@@ -1,6 +1,6 @@
 // What a run's lines come to, for runs whose listing nobody reads line by line.
 ghost use mathlib.Core.Path.{_≡_};
-ghost use mathlib.Core.Bool.{Bool, cond};
+ghost use mathlib.Core.Bool.{cond};
 ghost use Prim.Native.Nat.{_+_, _%_, _^_};
 ghost use Rattle.machine.specs.Totals.{noTotals, counted};
 use listing::Line;

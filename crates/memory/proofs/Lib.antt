@@ -1,2 +1,3 @@
+pub mod Gates
 pub mod Places
 pub mod Spans

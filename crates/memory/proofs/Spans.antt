@@ -9,7 +9,7 @@ use lib.ListN.{length, getD, set, length-set}
 use Rattle.common.specs.Bytes.{bigEndian, bytesOf}
 use Rattle.memory.specs.declared.Content.{Content}
 use Rattle.memory.specs.declared.Content.the-variants.{Value, Outside}
-use Rattle.memory.specs.Memory.{Memory, lent, inside, byteAt, gathered, readAt, wordSpots, putByte, putAt, allInside}
+use Rattle.memory.specs.Memory.{Memory, lent, inside, byteAt, gathered, readAt, wordSpots, putByte, putAt, allWritable}
 use Rattle.memory.specs.Memory.Laws.{put-in, put-base, write-map}
 use Rattle.memory.specs.Span.{halfSpots}
 use Rattle.memory.proofs.Places.{byte-below, byte-inside, byte-above, put-below, put-inside, put-above}
@@ -82,16 +82,16 @@ module _ (base : ℕ) (l : List ℕ) (a v : ℕ) (l₁ l₂ : List ℕ) where
 
 -- a span that begins below the map or ends above it is not all inside
 module _ (base : ℕ) (l : List ℕ) (a : ℕ) where
-  pub starts-below : (rest : List ℕ) → a < base → false ≡ allInside (lent base l) (a ∷ rest)
-  unfolding allInside
+  pub starts-below : (rest : List ℕ) → a < base → false ≡ allWritable (lent base l) (a ∷ rest)
+  unfolding allWritable
   starts-below rest h = rw (← (put-below base l a 0 h .0))
 
-  pub half-ends-above : base ≤ a → length l ≤ a - base + 1 → false ≡ allInside (lent base l) (halfSpots a)
-  unfolding allInside
+  pub half-ends-above : base ≤ a → length l ≤ a - base + 1 → false ≡ allWritable (lent base l) (halfSpots a)
+  unfolding allWritable
   half-ends-above h g = simp (← (put-above base l (a + 1) 0 (omega arith) (omega arith) .0), and-false)
 
-  pub word-ends-above : base ≤ a → length l ≤ a - base + 3 → false ≡ allInside (lent base l) (wordSpots a)
-  unfolding allInside
+  pub word-ends-above : base ≤ a → length l ≤ a - base + 3 → false ≡ allWritable (lent base l) (wordSpots a)
+  unfolding allWritable
   word-ends-above h g = simp (← (put-above base l (a + 3) 0 (omega arith) (omega arith) .0), and-false)
 
 -- ---- a span inside the map
@@ -104,16 +104,16 @@ module _ (base : ℕ) (l : List ℕ) (x p : ℕ) (h : base ≤ x) (e : x - base 
   put-place b = put-in (lent base l) x b place-inside ∙ rw e
 
 module _ (base : ℕ) (l : List ℕ) (a : ℕ) (h : base ≤ a) where
-  pub half-all : a - base + 1 < length l → true ≡ allInside (lent base l) (halfSpots a)
-  unfolding allInside
+  pub half-all : a - base + 1 < length l → true ≡ allWritable (lent base l) (halfSpots a)
+  unfolding allWritable
   half-all g =
       rw (
         place-inside base l a (a - base) h refl (omega arith),
         place-inside base l (a + 1) (a - base + 1) (omega arith) (omega arith) g,
       )
 
-  pub word-all : a - base + 3 < length l → true ≡ allInside (lent base l) (wordSpots a)
-  unfolding allInside
+  pub word-all : a - base + 3 < length l → true ≡ allWritable (lent base l) (wordSpots a)
+  unfolding allWritable
   word-all g =
       rw (
         place-inside base l a (a - base) h refl (omega arith),

@@ -5,12 +5,13 @@
 --   byteAt m a          == the byte at physical address a, or Outside
 --   readAt m l          == the number whose bytes, high byte first, stand at the addresses l; Outside if one of them is
 --   inside m a          == a is in the map
---   putByte m a b       == m with b at a, where a is in the map
+--   readable, writable m a == a byte can be read there, or written
+--   putByte m a b       == m with b at a, where a is writable
 --   putAt m l bs        == m with the bytes bs at the addresses l, one after the other
---   allInside m l       == every address of l is in the map
+--   allWritable m l     == every address of l is writable
 --
 -- Reads and writes are over a list of addresses: where an access's addresses come from is the question of the parts above.
--- A second, read-only memory would change `Memory`, `byteAt`, `inside` and `putByte`, and none of what is said through them.
+-- A second, read-only memory would change `Memory`, `readable`, `byteAt` and `mapGate`, and none of what is said through them.
 use Prim.Native.Nat.{ℕ, _+_, _-_, _*_, _%_}
 use mathlib.Core.Bool.{Bool, true, cond, _&&_}
 use mathlib.Core.List.{List, [], _∷_, map}
@@ -34,8 +35,15 @@ goodMap base n = eqb (base % 4096) 0 && eqb (n % 4096) 0 && leb (base + n) 0xFFF
 unfoldable pub inside : Memory → ℕ → Bool
 inside m a = leb (m .base) a && ltb (a - m .base) (length (m .bytes))
 
+-- one memory, all of it for reading and writing
+abbrev pub readable : Memory → ℕ → Bool
+readable m a = inside m a
+
+abbrev pub writable : Memory → ℕ → Bool
+writable m a = inside m a
+
 unfoldable pub byteAt : Memory → ℕ → Content
-byteAt m a = cond (inside m a) (Value (getD (m .bytes) (a - m .base) 0)) Outside
+byteAt m a = cond (readable m a) (Value (getD (m .bytes) (a - m .base) 0)) Outside
 
 -- the bytes go on after `high`; one that is missing makes the whole unreadable
 unfoldable pub gathered : ℕ → List Content → Content
@@ -51,13 +59,13 @@ abbrev pub wordSpots : ℕ → List ℕ
 wordSpots a = a ∷ (a + 1) ∷ (a + 2) ∷ (a + 3) ∷ []
 
 unfoldable pub putByte : Memory → ℕ → ℕ → Memory
-putByte m a b = cond (inside m a) (lent (m .base) (set (m .bytes) (a - m .base) b)) m
+putByte m a b = cond (writable m a) (lent (m .base) (set (m .bytes) (a - m .base) b)) m
 
 unfoldable pub putAt : Memory → List ℕ → List ℕ → Memory
 putAt m [] bs = m
 putAt m (a ∷ l) [] = m
 putAt m (a ∷ l) (b ∷ bs) = putAt (putByte m a b) l bs
 
-unfoldable pub allInside : Memory → List ℕ → Bool
-allInside m [] = true
-allInside m (a ∷ l) = inside m a && allInside m l
+unfoldable pub allWritable : Memory → List ℕ → Bool
+allWritable m [] = true
+allWritable m (a ∷ l) = writable m a && allWritable m l

@@ -2,9 +2,10 @@
 // not written.
 ghost use mathlib.Core.Path.{_≡_};
 ghost use lib.ListN.{length};
-ghost use Rattle.memory.specs.Memory.{lent, goodMap, byteAt, inside, putByte, readAt, wordSpots};
+ghost use Rattle.memory.specs.Memory.{lent, goodMap, byteAt, writable, putByte, readAt, wordSpots};
 use common::be_word;
 
+pub mod gate;
 pub mod span;
 
 // One past the last physical address that a map may have.
@@ -72,7 +73,7 @@ pub fn read_word(mem: &[u8], base: u32, addr: u32) -> Content
 
 // Writes a byte where that is in the map, and says whether it is.
 pub fn put_byte(mem: &mut [u8], base: u32, addr: u32, b: u8) -> bool
-    ensures { λ r. ⌜ (r ≡ inside (lent base (now (mem .entry))) addr) × (now (mem .exit) ≡ putByte (lent base (now (mem .entry))) addr b .bytes) ⌝ }
+    ensures { λ r. ⌜ (r ≡ writable (lent base (now (mem .entry))) addr) × (now (mem .exit) ≡ putByte (lent base (now (mem .entry))) addr b .bytes) ⌝ }
 {
     if addr < base {
         return false;

@@ -5,7 +5,7 @@ ghost use mathlib.Core.Path.{_≡_};
 ghost use Prim.Native.Nat.{_+_, _-_, _^_, _≤_, _<_};
 ghost use lib.ListN.{length};
 ghost use Rattle.common.specs.Bytes.{bytesOf};
-ghost use Rattle.memory.specs.Memory.{lent, readAt, wordSpots, putByte, putAt, allInside};
+ghost use Rattle.memory.specs.Memory.{lent, readAt, wordSpots, putByte, putAt, allWritable};
 ghost use Rattle.memory.specs.Span.{halfSpots};
 use crate::Content;
 use common::be_half;
@@ -73,7 +73,7 @@ fn put_word_in(mem: &mut [u8], base: u32, addr: u32, value: u32)
 
 // Writes a half's bytes where they are in the map, and says whether both are.
 pub fn put_half(mem: &mut [u8], base: u32, addr: u32, value: u32) -> bool
-    ensures { λ r. ⌜ (r ≡ allInside (lent base (now (mem .entry))) (halfSpots addr)) × (now (mem .exit) ≡ putAt (lent base (now (mem .entry))) (halfSpots addr) (bytesOf 2 value) .bytes) ⌝ }
+    ensures { λ r. ⌜ (r ≡ allWritable (lent base (now (mem .entry))) (halfSpots addr)) × (now (mem .exit) ≡ putAt (lent base (now (mem .entry))) (halfSpots addr) (bytesOf 2 value) .bytes) ⌝ }
 {
     if addr >= base {
         let at = (addr - base) as usize;
@@ -88,7 +88,7 @@ pub fn put_half(mem: &mut [u8], base: u32, addr: u32, value: u32) -> bool
 
 // Writes a word's bytes where they are in the map, and says whether all are.
 pub fn put_word(mem: &mut [u8], base: u32, addr: u32, value: u32) -> bool
-    ensures { λ r. ⌜ (r ≡ allInside (lent base (now (mem .entry))) (wordSpots addr)) × (now (mem .exit) ≡ putAt (lent base (now (mem .entry))) (wordSpots addr) (bytesOf 4 value) .bytes) ⌝ }
+    ensures { λ r. ⌜ (r ≡ allWritable (lent base (now (mem .entry))) (wordSpots addr)) × (now (mem .exit) ≡ putAt (lent base (now (mem .entry))) (wordSpots addr) (bytesOf 4 value) .bytes) ⌝ }
 {
     if addr >= base {
         let at = (addr - base) as usize;

@@ -4,7 +4,7 @@
 --                           word names which the walk would follow
 --   Usable m vm e        == e is an entry that a user's access may come to use: a valid one of the TLB, or the leaf that a walk of
 --                           some address finds
---   frameOf e            == the physical page of an entry; a page number drops what passes 32 bits
+--   entryFrame e            == the physical page of an entry; a page number drops what passes 32 bits
 --   Opened m vm k a      == the byte at a lies in a page that a table leaf or a valid TLB entry opens to users for access k
 --
 -- Choices that a reader may question. A word that the walk does not follow opens nothing, whatever its bits say. A valid entry counts
@@ -33,8 +33,8 @@ pub data Usable (m : Memory) (vm : Vm) (e : TlbEntry) : Type 0 where
   resident : (i : ℕ) → i < length (vm .tlb) → getD (vm .tlb) i noEntry ≡ e → e .valid ≡ true → Usable m vm e
   leaf : (va : ℕ) → va < 2 ^ 32 → walkOf m (vm .ptbr) va .walked ≡ Leaf e → Usable m vm e
 
-abbrev pub frameOf : TlbEntry → ℕ
-frameOf e = pageAddr (e .ppn) / 4096
+abbrev pub entryFrame : TlbEntry → ℕ
+entryFrame e = pageAddr (e .ppn) / 4096
 
 pub data Opened (m : Memory) (vm : Vm) (k : Access) (a : ℕ) : Type 0 where
-  opened : (e : TlbEntry) → Usable m vm e → e .vpn < 0xFFFF0 → permits e k ≡ true → a / 4096 ≡ frameOf e → Opened m vm k a
+  opened : (e : TlbEntry) → Usable m vm e → e .vpn < 0xFFFF0 → permits e k ≡ true → a / 4096 ≡ entryFrame e → Opened m vm k a

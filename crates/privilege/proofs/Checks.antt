@@ -1,18 +1,21 @@
 -- The ways through the check of an access. Assumes nothing.
 use Prim.Native.Nat.{ℕ}
-use mathlib.Core.Path.{_≡_, _∙_}
+use mathlib.Core.Path.{_≡_, sym, ap, _∙_}
 use mathlib.Core.Bool.{Bool, true, false}
 use lib.Dec.{eqb}
 use borrow.Author.Tests.{ne-eqb}
-use Rattle.common.specs.declared.Refusal.the-variants.{Size, Map}
+use Rattle.common.specs.declared.Refusal.{Refusal}
+use Rattle.memory.specs.Gate.{Refused as Shut, opens, accessGate}
+use Rattle.memory.specs.Gate.Laws.{is-open, is-shut}
 use Rattle.memory.specs.Memory.{Memory}
 use Rattle.mmu.specs.Check.{checkEach, pagesOf}
 use Rattle.mmu.specs.declared.check.Checked.{Checked}
 use Rattle.mmu.specs.declared.exception.Access.{Access}
 use Rattle.mmu.specs.declared.exception.Access.the-variants.{Read, Write, Fetch}
 use Rattle.mmu.specs.declared.exception.Exception.the-variants.{ProtectionFault}
-use Rattle.privilege.specs.Access.{fetchSize, dataSize, legalSize, mapGood, translatingOf, allowsOf, permissionOf, accessAnswered, checkLegal, checkAccess}
-use Rattle.privilege.specs.Addresses.{stepped}
+use Rattle.privilege.specs.Access.{fetchSize, dataSize, legalSize, translatingOf, allowsOf, permissionOf, accessAnswered, checkLegal, checkAccess}
+use Rattle.privilege.specs.Access.Laws.{check-refused, check-good}
+use Rattle.privilege.specs.Addresses.{addresses}
 use Rattle.privilege.specs.Region.{allAllowed}
 use Rattle.privilege.specs.State.{withVm}
 use Rattle.privilege.specs.declared.check.Permission.{Permission}
@@ -72,7 +75,7 @@ module _ (s : SystemState) where
   off h = rw h
 
   module _ (a n : ℕ) (k : Access) where
-    pub by-regions : (r : Bool) → s .user ≡ true → r ≡ allAllowed (s .regions) k (stepped n a) → r ≡ allowsOf s a n k
+    pub by-regions : (r : Bool) → s .user ≡ true → r ≡ allAllowed (s .regions) k (addresses n a) → r ≡ allowsOf s a n k
     unfolding allowsOf
     by-regions r h e = e ∙ rw h
 
@@ -98,15 +101,9 @@ module _ (m : Memory) (s : SystemState) (a n : ℕ) (k : Access) where
       denied h g q = q ∙ rw (← is, h, ← e, g)
 
   -- `check_access`
-  module _ (good : Bool) (is : good ≡ mapGood m) (r : AccessChecked) where
-    pub bad-map : good ≡ false → r ≡ accessAnswered s (Refused Map) → r ≡ checkAccess m s a n k
-    unfolding checkAccess
-    bad-map h q = q ∙ rw (← is, h)
+  module _ (legal : Bool) (size : legal ≡ legalSize k n) (ok : Bool) (is : ok ≡ opens (accessGate m legal)) (r : AccessChecked) where
+    pub let-in : ok ≡ true → r ≡ checkLegal m s a n k → r ≡ checkAccess m s a n k
+    let-in h q = q ∙ sym (check-good m s a n k (ap (accessGate m) (sym size) ∙ is-open m legal (sym is ∙ h)))
 
-    pub bad-size : (legal : Bool) → good ≡ true → legal ≡ legalSize k n → legal ≡ false → r ≡ accessAnswered s (Refused Size) → r ≡ checkAccess m s a n k
-    unfolding checkAccess
-    bad-size legal h e g q = q ∙ rw (← is, h, ← e, g)
-
-    pub good-access : (legal : Bool) → good ≡ true → legal ≡ legalSize k n → legal ≡ true → r ≡ checkLegal m s a n k → r ≡ checkAccess m s a n k
-    unfolding checkAccess
-    good-access legal h e g q = q ∙ rw (← is, h, ← e, g)
+    pub shut : (f : Refusal) → ok ≡ false → Shut f ≡ accessGate m false → r ≡ accessAnswered s (Refused f) → r ≡ checkAccess m s a n k
+    shut f h e q = q ∙ sym (check-refused m s a n k f (ap (accessGate m) (sym size) ∙ is-shut m legal f (sym is ∙ h) e))

@@ -2,7 +2,7 @@
 use mathlib.Core.Path.{refl}
 use Rattle.common.specs.Bits.{bitSet}
 use Rattle.privilege.specs.Access.{fetchSize, dataSize, legalSize, allowsOf}
-use Rattle.privilege.specs.Addresses.{stepped}
+use Rattle.privilege.specs.Addresses.{addresses}
 use Rattle.privilege.specs.Corners.{Corners}
 use Rattle.privilege.specs.Region.{grantsOf, someGrants, allAllowed, fieldOf, withField}
 use Rattle.privilege.specs.Registers.{regionField, srRead, srWritten}
@@ -10,7 +10,7 @@ use Rattle.privilege.specs.State.{noRegions, statusOf, statusSet}
 use Rattle.privilege.specs.Trap.{trapped, returned}
 
 pub corners-hold : Corners
-unfolding bitSet fetchSize dataSize legalSize allowsOf stepped grantsOf someGrants allAllowed fieldOf withField regionField srRead srWritten noRegions statusOf statusSet trapped returned
+unfolding bitSet fetchSize dataSize legalSize allowsOf addresses grantsOf someGrants allAllowed fieldOf withField regionField srRead srWritten noRegions statusOf statusSet trapped returned
 corners-hold =
     record {
       before-region = refl;

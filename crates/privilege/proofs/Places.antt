@@ -1,7 +1,7 @@
 -- The ways through loads and stores of rows. Assumes nothing.
 use Prim.Native.Nat.{ℕ, suc, _+_, _-_, _*_, _/_, _%_, _^_, _≤_, _<_}
 use mathlib.Core.Path.{_≡_, refl, sym, ap, _∙_}
-use mathlib.Core.Bool.{Bool, true, false, cond, _&&_, and-true, and-assoc}
+use mathlib.Core.Bool.{Bool, true, false, _&&_, and-true, and-assoc}
 use mathlib.Core.List.{List, [], _∷_}
 use mathlib.Core.Logic.{⊎-elim}
 use native.Mathlib.Nat.{div-one}
@@ -9,20 +9,16 @@ use native.Mathlib.Omega.{arith}
 use lib.ListN.{length}
 use Rattle.common.specs.Bytes.{bytesOf}
 use Rattle.common.specs.Cases.{bool-is}
-use Rattle.memory.specs.Memory.{Memory, lent, goodMap, inside, byteAt, gathered, readAt, wordSpots, putByte, putAt, allInside}
-use Rattle.memory.specs.Memory.Bytewise.{readOn, read-whole, read-none, read-value, read-outside, put-none, put-next, inside-none, inside-next}
-use Rattle.memory.specs.Memory.Laws.{good-map-end, inside-bounds, byte-outside, put-out, lent-put, put-length, put-map, all-inside-same}
+use Rattle.memory.specs.Memory.{Memory, lent, inside, writable, byteAt, gathered, readAt, wordSpots, putByte, putAt, allWritable}
+use Rattle.memory.specs.Memory.Bytewise.{readOn, read-whole, read-none, read-value, read-outside, put-none, put-next, writable-none, writable-next}
+use Rattle.memory.specs.Memory.Laws.{good-map-end, inside-bounds, byte-outside, put-out, lent-put, put-length, put-map, all-writable-same}
 use Rattle.memory.specs.Span.{halfSpots}
 use Rattle.memory.specs.declared.Content.{Content}
 use Rattle.memory.specs.declared.Content.the-variants.{Value, Outside}
-use Rattle.privilege.specs.Access.{fetchSize, dataSize, mapGood}
+use Rattle.memory.specs.Gate.{mapGood}
 use Rattle.privilege.specs.Rows.{roomOf, placeOf, placesFrom, rowsOf}
 use Rattle.privilege.specs.Rows.Laws.{places-none, places-next, place-first, place-second, rows-word, rows-half, rows-byte}
-use Rattle.privilege.specs.Transfer.{readOf, loadAt, storeAt, memoryAt}
-use Rattle.privilege.specs.declared.transfer.DataRead.{DataRead}
-use Rattle.privilege.specs.declared.transfer.DataWritten.{DataWritten}
-use Rattle.privilege.specs.declared.transfer.DataWritten.the-variants as written
-use Rattle.privilege.proofs.Transfers.{data-small, next-small, next-fits, bytes-next, read-good, write-good, memory-written}
+use Rattle.privilege.proofs.Transfers.{next-small, next-fits, bytes-next}
 
 -- a place in either page
 module _ (a pa pb i : ℕ) where
@@ -59,7 +55,7 @@ module _ (m : Memory) (a pa pb n : ℕ) where
   pub put-start : (v : ℕ) → putAt m (rowsOf a n pa pb) (bytesOf n v) ≡ putAt m (placesFrom a pa pb 0 (n - 0)) (bytesOf (n - 0) v)
   put-start v = rw all-left
 
-  pub inside-start : allInside m (rowsOf a n pa pb) ≡ (true && allInside m (placesFrom a pa pb 0 (n - 0)))
+  pub inside-start : allWritable m (rowsOf a n pa pb) ≡ (true && allWritable m (placesFrom a pa pb 0 (n - 0)))
   inside-start = rw all-left
 
 -- ---- a load byte by byte: n - i bytes are left
@@ -106,11 +102,11 @@ module _ (base : ℕ) (l : List ℕ) (a pa pb n v i : ℕ) (at b : ℕ) (after :
       → z ≡ putAt (lent base after) (placesFrom a pa pb (i + 1) (n - (i + 1))) (bytesOf (n - (i + 1)) v)
   put-on z p = rw len at p ∙ rw (places-next, bytes-next, ← here, ← low, ← byte, put-next, ← memory)
 
-  pub inside-on : (z all was both : Bool) → z ≡ (all && allInside (lent base l) (placesFrom a pa pb i (n - i))) → was ≡ inside (lent base l) at → both ≡ (all && was)
-      → z ≡ (both && allInside (lent base after) (placesFrom a pa pb (i + 1) (n - (i + 1))))
+  pub inside-on : (z all was both : Bool) → z ≡ (all && allWritable (lent base l) (placesFrom a pa pb i (n - i))) → was ≡ writable (lent base l) at → both ≡ (all && was)
+      → z ≡ (both && allWritable (lent base after) (placesFrom a pa pb (i + 1) (n - (i + 1))))
   inside-on z all was both p w q =
-      let same = all-inside-same (putByte (lent base l) at b) (lent base l) (put-map (lent base l) at b) (placesFrom a pa pb (i + 1) (n - (i + 1))) in
-      rw len at p ∙ rw (places-next, ← here, inside-next, ← w, q, memory, same, and-assoc)
+      let same = all-writable-same (putByte (lent base l) at b) (lent base l) (put-map (lent base l) at b) (placesFrom a pa pb (i + 1) (n - (i + 1))) in
+      rw len at p ∙ rw (places-next, ← here, writable-next, ← w, q, memory, same, and-assoc)
 
 pub good-still : (base : ℕ) (l after : List ℕ) → mapGood (lent base l) ≡ true → length after ≡ length l → mapGood (lent base after) ≡ true
 good-still base l after h e = rw e h
@@ -122,8 +118,8 @@ module _ (base : ℕ) (l : List ℕ) (a pa pb n v i : ℕ) (none : n ≤ i) wher
   pub put-all : (z : Memory) → z ≡ putAt (lent base l) (placesFrom a pa pb i (n - i)) (bytesOf (n - i) v) → l ≡ z .bytes
   put-all z p = let e : n - i ≡ 0 = omega arith in rw (p, e, places-none, put-none)
 
-  pub inside-all : (z all : Bool) → z ≡ (all && allInside (lent base l) (placesFrom a pa pb i (n - i))) → all ≡ z
-  inside-all z all p = let e : n - i ≡ 0 = omega arith in rw (p, e, places-none, inside-none, and-true)
+  pub inside-all : (z all : Bool) → z ≡ (all && allWritable (lent base l) (placesFrom a pa pb i (n - i))) → all ≡ z
+  inside-all z all p = let e : n - i ≡ 0 = omega arith in rw (p, e, places-none, writable-none, and-true)
 
 -- ---- inside a page
 
@@ -140,11 +136,11 @@ module _ (m : Memory) (a n pa pb : ℕ) where
   pub half-there : (x : Content) → n ≡ 2 → a % 4096 ≤ 4094 → x ≡ readAt m (halfSpots pa) → x ≡ readAt m (rowsOf a n pa pb)
   half-there x h g p = p ∙ rw (h, rows-half a pa pb (omega arith))
 
-  pub byte-inside : (all : Bool) → n ≡ 1 → all ≡ inside m pa → all ≡ allInside m (rowsOf a n pa pb)
-  unfolding allInside
+  pub byte-inside : (all : Bool) → n ≡ 1 → all ≡ writable m pa → all ≡ allWritable m (rowsOf a n pa pb)
+  unfolding allWritable
   byte-inside all h p = p ∙ rw (h, rows-byte, and-true)
 
-  pub half-inside : (all : Bool) → n ≡ 2 → a % 4096 ≤ 4094 → all ≡ allInside m (halfSpots pa) → all ≡ allInside m (rowsOf a n pa pb)
+  pub half-inside : (all : Bool) → n ≡ 2 → a % 4096 ≤ 4094 → all ≡ allWritable m (halfSpots pa) → all ≡ allWritable m (rowsOf a n pa pb)
   half-inside all h g p = p ∙ rw (h, rows-half a pa pb (omega arith))
 
   pub byte-put : (v : ℕ) (l : List ℕ) → n ≡ 1 → l ≡ putByte m pa (v % 256) .bytes → l ≡ putAt m (rowsOf a n pa pb) (bytesOf n v) .bytes
@@ -154,25 +150,16 @@ module _ (m : Memory) (a n pa pb : ℕ) where
   pub half-put : (v : ℕ) (l : List ℕ) → n ≡ 2 → a % 4096 ≤ 4094 → l ≡ putAt m (halfSpots pa) (bytesOf 2 v) .bytes → l ≡ putAt m (rowsOf a n pa pb) (bytesOf n v) .bytes
   half-put v l h g p = p ∙ rw (h, rows-half a pa pb (omega arith))
 
--- what the bytes are asked by
-pub small-good : (base long n : ℕ) (good legal : Bool) → good ≡ goodMap base long → good ≡ true → legal ≡ dataSize n → legal ≡ true → (n ≤ 4) × (goodMap base long ≡ true)
-small-good base long n good legal is ok size h = (data-small n legal size h, sym is ∙ ok)
-
--- a word, whose size is legal
-legal-word : (n : ℕ) → n ≡ 4 → true ≡ dataSize n
-unfolding dataSize fetchSize
-legal-word n h = rw h
-
-module _ (m : Memory) (a n pa pb : ℕ) (good : Bool) (is : good ≡ mapGood m) (ok : good ≡ true) (h : n ≡ 4) (g : a % 4096 ≤ 4092) where
+-- a word
+module _ (m : Memory) (a n pa pb : ℕ) (h : n ≡ 4) (g : a % 4096 ≤ 4092) where
   word-rows : wordSpots pa ≡ rowsOf a n pa pb
   word-rows = rw (h, rows-word a pa pb (omega arith))
 
-  pub word-read : (x : Content) (r : DataRead) → x ≡ readAt m (wordSpots pa) → r ≡ readOf x → r ≡ loadAt m n (rowsOf a n pa pb)
-  word-read x r p q = read-good m n (rowsOf a n pa pb) good is true (legal-word n h) ok x r refl (p ∙ ap (readAt m) word-rows) q
+  pub word-there : (x : Content) → x ≡ readAt m (wordSpots pa) → x ≡ readAt m (rowsOf a n pa pb)
+  word-there x p = p ∙ ap (readAt m) word-rows
 
-  pub word-written : (all : Bool) (r : DataWritten) → all ≡ allInside m (wordSpots pa) → r ≡ cond all written.Done written.BusError → r ≡ storeAt m n (rowsOf a n pa pb)
-  word-written all r p q = write-good m n (rowsOf a n pa pb) good is true (legal-word n h) ok all r refl (p ∙ ap (allInside m) word-rows) q
+  pub word-inside : (all : Bool) → all ≡ allWritable m (wordSpots pa) → all ≡ allWritable m (rowsOf a n pa pb)
+  word-inside all p = p ∙ ap (allWritable m) word-rows
 
-  pub word-left : (v : ℕ) (l : List ℕ) → l ≡ putAt m (wordSpots pa) (bytesOf 4 v) .bytes → l ≡ memoryAt m n (rowsOf a n pa pb) v .bytes
-  word-left v l p =
-      memory-written m n (rowsOf a n pa pb) good is true (legal-word n h) ok v l refl (p ∙ rw (word-rows, h))
+  pub word-put : (v : ℕ) (l : List ℕ) → l ≡ putAt m (wordSpots pa) (bytesOf 4 v) .bytes → l ≡ putAt m (rowsOf a n pa pb) (bytesOf n v) .bytes
+  word-put v l p = p ∙ rw (word-rows, h)

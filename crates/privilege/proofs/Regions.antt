@@ -15,7 +15,7 @@ use Rattle.common.specs.Bits.Laws.{clear-bit, set-bit}
 use Rattle.mmu.specs.Exception.{regionBit}
 use Rattle.mmu.specs.declared.exception.Access.{Access}
 use Rattle.mmu.specs.declared.exception.Access.the-variants.{Read, Write, Fetch}
-use Rattle.privilege.specs.Addresses.{stepped}
+use Rattle.privilege.specs.Addresses.{addresses}
 use Rattle.privilege.specs.Region.{grantsOf, someGrants, byteAllowed, allAllowed}
 use Rattle.privilege.specs.State.{noRegion}
 use Rattle.privilege.specs.declared.region.Region.{Region}
@@ -70,15 +70,15 @@ module _ (l : List Region) (a : ℕ) (k : Access) where
   byte-by-regions r h e = rw (lt-ltb a 0xFFFF_0000 h, ← e)
 
 -- the loop over the bytes, of which n are left
-module _ (z : Bool) (l : List Region) (k : Access) (n a : ℕ) (p : z ≡ allAllowed l k (stepped n a)) where
+module _ (z : Bool) (l : List Region) (k : Access) (n a : ℕ) (p : z ≡ allAllowed l k (addresses n a)) where
   pub no-byte-left : n ≡ 0 → true ≡ z
-  unfolding allAllowed stepped
+  unfolding allAllowed addresses
   no-byte-left h = sym (p ∙ rw h)
 
-  pub byte-allowed : (r : Bool) (next : ℕ) → (n ≡ 0 → ⊥) → r ≡ byteAllowed l k a → r ≡ true → next ≡ (a + 1) % 2 ^ 32 → z ≡ allAllowed l k (stepped (n - 1) next)
-  unfolding allAllowed stepped
+  pub byte-allowed : (r : Bool) (next : ℕ) → (n ≡ 0 → ⊥) → r ≡ byteAllowed l k a → r ≡ true → next ≡ (a + 1) % 2 ^ 32 → z ≡ allAllowed l k (addresses (n - 1) next)
+  unfolding allAllowed addresses
   byte-allowed r next h e t q = let m : n ≡ suc (n - 1) = omega arith in rw m at p ∙ rw (← e, t, q)
 
   pub byte-denied : (r : Bool) → (n ≡ 0 → ⊥) → r ≡ byteAllowed l k a → r ≡ false → false ≡ z
-  unfolding allAllowed stepped
+  unfolding allAllowed addresses
   byte-denied r h e t = let m : n ≡ suc (n - 1) = omega arith in sym (rw m at p ∙ rw (← e, t))

@@ -12,11 +12,15 @@ use borrow.Author.Tests.{le-leb, lt-leb, lt-ltb, le-ltb}
 use Rattle.common.specs.Bits.{bitSet}
 use Rattle.common.specs.Bits.Laws.{bit-or, bit-of-zero}
 use Rattle.common.specs.Cases.{cond-holds, and-left, and-right}
+use Rattle.common.specs.declared.Refusal.the-variants.{Size, Map}
+use Rattle.memory.specs.Gate.{Open, mapGood, accessGate}
+use Rattle.memory.specs.Gate.Laws.{map-open, map-shut, size-open, size-shut, size-kept}
+use Rattle.memory.specs.Memory.{Memory}
 use Rattle.mmu.specs.Exception.{regionBit}
 use Rattle.mmu.specs.declared.exception.Access.{Access}
-use Rattle.privilege.specs.Access.{allowsOf, translatingOf}
-use Rattle.privilege.specs.Access.Laws.{check-bad-map, check-bad-size, check-good, legal-answers, by-supervisor, by-regions, by-pages}
-use Rattle.privilege.specs.Addresses.{stepped}
+use Rattle.privilege.specs.Access.{legalSize, allowsOf, translatingOf}
+use Rattle.privilege.specs.Access.Laws.{check-refused, check-good, legal-answers, by-supervisor, by-regions, by-pages}
+use Rattle.privilege.specs.Addresses.{addresses}
 use Rattle.mmu.specs.Vm.Laws.{flushed-is, invalidated-else, invalidated-entry}
 use Rattle.privilege.specs.Meaning.{Registers, Meaning}
 use Rattle.privilege.specs.Region.{grantsOf, byteAllowed, allAllowed, fieldOf, withField}
@@ -165,18 +169,18 @@ step-mod : (a i : ℕ) → ((a + 1) % 2 ^ 32 + i) % 2 ^ 32 ≡ (a + suc i) % 2 ^
 step-mod a i = omega arith
 
 module _ (l : List Region) (k : Access) where
-  each-byte : (n a i : ℕ) → a < 2 ^ 32 → allAllowed l k (stepped n a) ≡ true → i < n → byteAllowed l k ((a + i) % 2 ^ 32) ≡ true
-  unfolding allAllowed stepped
+  each-byte : (n a i : ℕ) → a < 2 ^ 32 → allAllowed l k (addresses n a) ≡ true → i < n → byteAllowed l k ((a + i) % 2 ^ 32) ≡ true
+  unfolding allAllowed addresses
   each-byte zero a i h p q = absurd (omega arith)
   each-byte (suc n) a zero h p q =
       let e : (a + 0) % 2 ^ 32 ≡ a = omega arith in
-      rw e (and-left (byteAllowed l k a) (allAllowed l k (stepped n ((a + 1) % 2 ^ 32))) p)
+      rw e (and-left (byteAllowed l k a) (allAllowed l k (addresses n ((a + 1) % 2 ^ 32))) p)
   each-byte (suc n) a (suc i) h p q =
       rw (step-mod a i) at
-      (each-byte n ((a + 1) % 2 ^ 32) i (omega arith) (and-right (byteAllowed l k a) (allAllowed l k (stepped n ((a + 1) % 2 ^ 32))) p) (omega arith))
+      (each-byte n ((a + 1) % 2 ^ 32) i (omega arith) (and-right (byteAllowed l k a) (allAllowed l k (addresses n ((a + 1) % 2 ^ 32))) p) (omega arith))
 
-  all-bytes : (n a : ℕ) → a < 2 ^ 32 → ((i : ℕ) → i < n → byteAllowed l k ((a + i) % 2 ^ 32) ≡ true) → allAllowed l k (stepped n a) ≡ true
-  unfolding allAllowed stepped
+  all-bytes : (n a : ℕ) → a < 2 ^ 32 → ((i : ℕ) → i < n → byteAllowed l k ((a + i) % 2 ^ 32) ≡ true) → allAllowed l k (addresses n a) ≡ true
+  unfolding allAllowed addresses
   all-bytes zero a h p = refl
   all-bytes (suc n) a h p =
       let e : (a + 0) % 2 ^ 32 ≡ a = omega arith in
@@ -185,11 +189,11 @@ module _ (l : List Region) (k : Access) where
       rw (first, rest)
 
 module _ (s : SystemState) (a n : ℕ) (k : Access) where
-  user-allowed : s .user ≡ true → allowsOf s a n k ≡ allAllowed (s .regions) k (stepped n a)
+  user-allowed : s .user ≡ true → allowsOf s a n k ≡ allAllowed (s .regions) k (addresses n a)
   unfolding allowsOf
   user-allowed h = rw h
 
-  allowed-all : allAllowed (s .regions) k (stepped n a) ≡ true → allowsOf s a n k ≡ true
+  allowed-all : allAllowed (s .regions) k (addresses n a) ≡ true → allowsOf s a n k ≡ true
   unfolding allowsOf
   allowed-all h = rw (h, or-true)
 
@@ -200,6 +204,9 @@ module _ (s : SystemState) (a n : ℕ) (k : Access) where
   is-on : s .user ≡ true → s .vm .enabled ≡ true → translatingOf s ≡ true
   unfolding translatingOf
   is-on h g = rw (h, g)
+
+opened : (m : Memory) (k : Access) (n : ℕ) → mapGood m ≡ true → legalSize k n ≡ true → accessGate m (legalSize k n) ≡ Open
+opened m k n h g = size-open m (legalSize k n) (map-open m h) g
 
 pub meaning-holds : Meaning
 unfolding statusSet srRead srWritten fieldOf withField
@@ -244,10 +251,10 @@ meaning-holds =
       reserved = λ l k a h. rw (le-ltb a 0xFFFF_0000 h);
       each-byte = λ s a n i k h u p q. each-byte (s .regions) k n a i h (sym (user-allowed s a n k u) ∙ p) q;
       all-bytes = λ s a n k h p. allowed-all s a n k (all-bytes (s .regions) k n a h p);
-      check-map = check-bad-map;
-      check-size = check-bad-size;
-      check-answers = λ m s a n k r h g e. legal-answers m s a n k r (sym (ap (λ (c : AccessChecked). c .permission) (check-good m s a n k h g)) ∙ e);
-      check-supervisor = λ m s a n k h g u. check-good m s a n k h g ∙ by-supervisor m s a n k u;
-      check-regions = λ m s a n k h g u t. check-good m s a n k h g ∙ by-regions m s a n k (is-off s a n k t);
-      check-pages = λ m s a n k h g u t. check-good m s a n k h g ∙ by-pages m s a n k (is-on s a n k u t);
+      check-map = λ m s a n k h. check-refused m s a n k Map (size-kept m (legalSize k n) Map (map-shut m h));
+      check-size = λ m s a n k h g. check-refused m s a n k Size (size-shut m (legalSize k n) (map-open m h) g);
+      check-answers = λ m s a n k r h g e. legal-answers m s a n k r (sym (ap (λ (c : AccessChecked). c .permission) (check-good m s a n k (opened m k n h g))) ∙ e);
+      check-supervisor = λ m s a n k h g u. check-good m s a n k (opened m k n h g) ∙ by-supervisor m s a n k u;
+      check-regions = λ m s a n k h g u t. check-good m s a n k (opened m k n h g) ∙ by-regions m s a n k (is-off s a n k t);
+      check-pages = λ m s a n k h g u t. check-good m s a n k (opened m k n h g) ∙ by-pages m s a n k (is-on s a n k u t);
     }

@@ -1,6 +1,6 @@
 -- The ways through data access. Assumes nothing.
 use Prim.Native.Nat.{ℕ, zero, suc, _+_, _-_, _*_, _/_, _%_, _^_, _≤_, _<_}
-use mathlib.Core.Path.{_≡_, refl, sym, _∙_}
+use mathlib.Core.Path.{_≡_, refl, sym, ap, _∙_}
 use mathlib.Core.Bool.{Bool, true, false, cond, _&&_, and-true, and-assoc}
 use mathlib.Core.List.{List, _∷_}
 use native.Mathlib.Decide.{ℕ-discrete}
@@ -10,14 +10,16 @@ use native.Mathlib.Omega.{arith}
 use lib.Bits.{bitAnd, bitOr, and-mask, or-shifted}
 use Rattle.common.specs.Bytes.{bytesOf}
 use Rattle.common.specs.Cases.{absurd-eq}
-use Rattle.common.specs.declared.Refusal.the-variants.{Size, Map}
-use Rattle.memory.specs.Memory.{Memory, lent, inside, byteAt, readAt, wordSpots, putByte, putAt, allInside}
-use Rattle.memory.specs.Memory.Laws.{lent-put, put-map, all-inside-same}
+use Rattle.common.specs.declared.Refusal.{Refusal}
+use Rattle.memory.specs.Gate.{Open, Refused, opens, mapGood, accessGate}
+use Rattle.memory.specs.Gate.Laws.{access-open, is-open, is-shut}
+use Rattle.memory.specs.Memory.{Memory, lent, writable, byteAt, readAt, wordSpots, putByte, putAt, allWritable}
+use Rattle.memory.specs.Memory.Laws.{lent-put, put-map, all-writable-same}
 use Rattle.memory.specs.declared.Content.{Content}
 use Rattle.memory.specs.declared.Content.the-variants.{Value, Outside}
 use Rattle.mmu.specs.Vm.{frameOf}
-use Rattle.memory.specs.Memory.Bytewise.{readOn, read-none, read-value, read-outside, put-none, put-next, inside-none, inside-next}
-use Rattle.privilege.specs.Access.{dataSize, mapGood, translatingOf}
+use Rattle.memory.specs.Memory.Bytewise.{readOn, read-none, read-value, read-outside, put-none, put-next, writable-none, writable-next}
+use Rattle.privilege.specs.Access.{dataSize, translatingOf}
 use Rattle.privilege.specs.Transfer.{joinedTo, physicalOf, spots, readOf, loadAt, storeAt, memoryAt}
 use Rattle.privilege.specs.Transfer.Laws.{spots-none, spots-next, word-spots}
 use Rattle.privilege.specs.declared.state.SystemState.{SystemState}
@@ -98,52 +100,47 @@ data-small n r e t = sizes (ℕ-discrete n 1) (ℕ-discrete n 2) (ℕ-discrete n
     sizes (no a) (no b) (yes d) h = omega arith
     sizes (no a) (no b) (no d) h = absurd-eq (let z : false ≡ true = sym (size-none n a b d) ∙ h in cc)
 
--- loads and stores from any addresses: the refusals come first
-module _ (m : Memory) (n : ℕ) (l : List ℕ) (good : Bool) (is : good ≡ mapGood m) where
-  pub read-bad-map : good ≡ false → read.Refused Map ≡ loadAt m n l
-  unfolding loadAt
-  read-bad-map h = rw (← is, h)
+-- the gate, by the code's tests: `ok` is whether it opens
+module _ (m : Memory) (n : ℕ) (legal : Bool) (size : legal ≡ dataSize n) (ok : Bool) (is : ok ≡ opens (accessGate m legal)) where
+  gate-open : ok ≡ true → accessGate m (dataSize n) ≡ Open
+  gate-open h = ap (accessGate m) (sym size) ∙ is-open m legal (sym is ∙ h)
 
-  pub write-bad-map : good ≡ false → written.Refused Map ≡ storeAt m n l
-  unfolding storeAt
-  write-bad-map h = rw (← is, h)
+  gate-shut : (r : Refusal) → ok ≡ false → Refused r ≡ accessGate m false → accessGate m (dataSize n) ≡ Refused r
+  gate-shut r h e = ap (accessGate m) (sym size) ∙ is-shut m legal r (sym is ∙ h) e
 
-  module _ (legal : Bool) (size : legal ≡ dataSize n) (ok : good ≡ true) where
-    pub read-bad-size : legal ≡ false → read.Refused Size ≡ loadAt m n l
+  pub open-good : ok ≡ true → (n ≤ 4) × (mapGood m ≡ true)
+  open-good h = let o = access-open m (dataSize n) (gate-open h) in (data-small n (dataSize n) refl (o .1), o .0)
+
+  pub open-small : ok ≡ true → n ≤ 4
+  open-small h = open-good h .0
+
+  -- loads and stores from any addresses
+  module _ (l : List ℕ) where
+    pub read-refused : (r : Refusal) → ok ≡ false → Refused r ≡ accessGate m false → read.Refused r ≡ loadAt m n l
     unfolding loadAt
-    read-bad-size h = rw (← is, ok, ← size, h)
+    read-refused r h e = rw (gate-shut r h e)
 
-    pub write-bad-size : legal ≡ false → written.Refused Size ≡ storeAt m n l
+    pub write-refused : (r : Refusal) → ok ≡ false → Refused r ≡ accessGate m false → written.Refused r ≡ storeAt m n l
     unfolding storeAt
-    write-bad-size h = rw (← is, ok, ← size, h)
+    write-refused r h e = rw (gate-shut r h e)
 
-    pub read-good : (c : Content) (r : DataRead) → legal ≡ true → c ≡ readAt m l → r ≡ readOf c → r ≡ loadAt m n l
+    pub read-good : (c : Content) (r : DataRead) → ok ≡ true → c ≡ readAt m l → r ≡ readOf c → r ≡ loadAt m n l
     unfolding loadAt
-    read-good c r h e q = q ∙ rw (← is, ok, ← size, h, e)
+    read-good c r h e q = q ∙ rw (gate-open h, e)
 
-    pub write-good : (all : Bool) (r : DataWritten) → legal ≡ true → all ≡ allInside m l → r ≡ cond all written.Done written.BusError → r ≡ storeAt m n l
+    pub write-good : (all : Bool) (r : DataWritten) → ok ≡ true → all ≡ allWritable m l → r ≡ cond all written.Done written.BusError → r ≡ storeAt m n l
     unfolding storeAt
-    write-good all r h e q = q ∙ rw (← is, ok, ← size, h, e)
+    write-good all r h e q = q ∙ rw (gate-open h, e)
 
-    pub write-done : (all : Bool) → legal ≡ true → all ≡ allInside m l → all ≡ true → written.Done ≡ storeAt m n l
-    write-done all h e t = write-good all written.Done h e (rw t)
-
-    pub write-failed : (all : Bool) → legal ≡ true → all ≡ allInside m l → all ≡ false → written.BusError ≡ storeAt m n l
-    write-failed all h e t = write-good all written.BusError h e (rw t)
-
-    pub memory-written : (v : ℕ) (bs : List ℕ) → legal ≡ true → bs ≡ putAt m l (bytesOf n v) .bytes → bs ≡ memoryAt m n l v .bytes
+    pub memory-written : (v : ℕ) (bs : List ℕ) → ok ≡ true → bs ≡ putAt m l (bytesOf n v) .bytes → bs ≡ memoryAt m n l v .bytes
     unfolding memoryAt
-    memory-written v bs h q = q ∙ rw (← is, ok, ← size, h)
+    memory-written v bs h q = q ∙ rw (gate-open h)
 
 -- a refused store leaves the memory
-module _ (base : ℕ) (bs : List ℕ) (n : ℕ) (l : List ℕ) (v : ℕ) (good : Bool) (is : good ≡ mapGood (lent base bs)) where
-  pub kept-bad-map : good ≡ false → bs ≡ memoryAt (lent base bs) n l v .bytes
-  unfolding memoryAt
-  kept-bad-map h = rw (← is, h)
-
-  pub kept-bad-size : (legal : Bool) → good ≡ true → legal ≡ dataSize n → legal ≡ false → bs ≡ memoryAt (lent base bs) n l v .bytes
-  unfolding memoryAt
-  kept-bad-size legal g size h = rw (← is, g, ← size, h)
+pub memory-kept : (base : ℕ) (bs : List ℕ) (n : ℕ) (legal : Bool) → legal ≡ dataSize n → (ok : Bool) → ok ≡ opens (accessGate (lent base bs) legal)
+    → (l : List ℕ) (v : ℕ) (r : Refusal) → ok ≡ false → Refused r ≡ accessGate (lent base bs) false → bs ≡ memoryAt (lent base bs) n l v .bytes
+unfolding memoryAt
+memory-kept base bs n legal size ok is l v r h e = rw (gate-shut (lent base bs) n legal size ok is r h e)
 
 -- ---- stores: the loop, with n bytes of v left from address a on
 
@@ -162,15 +159,15 @@ module _ (base : ℕ) (l : List ℕ) (s : SystemState) (v n a : ℕ) (pa b next 
   pub put-on : (z : Memory) → z ≡ putAt (lent base l) (spots s a n) (bytesOf n v) → z ≡ putAt (lent base after) (spots s next (n - 1)) (bytesOf (n - 1) v)
   put-on z p = rw len at p ∙ rw (spots-next, bytes-next, ← at, ← byte, put-next, ← memory, ← step)
 
-  pub inside-on : (z all was both : Bool) → z ≡ (all && allInside (lent base l) (spots s a n)) → was ≡ inside (lent base l) pa → both ≡ (all && was)
-      → z ≡ (both && allInside (lent base after) (spots s next (n - 1)))
+  pub inside-on : (z all was both : Bool) → z ≡ (all && allWritable (lent base l) (spots s a n)) → was ≡ writable (lent base l) pa → both ≡ (all && was)
+      → z ≡ (both && allWritable (lent base after) (spots s next (n - 1)))
   inside-on z all was both p w q =
-      let same = all-inside-same (putByte (lent base l) pa b) (lent base l) (put-map (lent base l) pa b) (spots s next (n - 1)) in
-      rw len at p ∙ rw (spots-next, ← at, inside-next, ← w, ← step, q, memory, same, and-assoc)
+      let same = all-writable-same (putByte (lent base l) pa b) (lent base l) (put-map (lent base l) pa b) (spots s next (n - 1)) in
+      rw len at p ∙ rw (spots-next, ← at, writable-next, ← w, ← step, q, memory, same, and-assoc)
 
 module _ (base : ℕ) (l : List ℕ) (s : SystemState) (v n a : ℕ) (none : n ≤ 0) where
   pub put-all : (z : Memory) → z ≡ putAt (lent base l) (spots s a n) (bytesOf n v) → l ≡ z .bytes
   put-all z p = let e : n ≡ 0 = omega arith in rw (p, e, spots-none, put-none)
 
-  pub inside-all : (z all : Bool) → z ≡ (all && allInside (lent base l) (spots s a n)) → all ≡ z
-  inside-all z all p = let e : n ≡ 0 = omega arith in rw (p, e, spots-none, inside-none, and-true)
+  pub inside-all : (z all : Bool) → z ≡ (all && allWritable (lent base l) (spots s a n)) → all ≡ z
+  inside-all z all p = let e : n ≡ 0 = omega arith in rw (p, e, spots-none, writable-none, and-true)

@@ -1,24 +1,27 @@
 -- The ways through the debugger's view. Assumes nothing.
-use Prim.Native.Nat.{ℕ, _/_, _%_}
-use mathlib.Core.Path.{_≡_, _∙_}
+use Prim.Native.Nat.{ℕ, _%_}
+use mathlib.Core.Path.{_≡_, sym, _∙_}
 use mathlib.Core.Bool.{Bool, true, false, not}
 use lib.Bits.{bitAnd}
 use lib.Dec.{eqb}
 use lib.ListN.{getD}
 use Rattle.common.specs.Bits.Laws.{flag-is}
-use Rattle.common.specs.declared.Refusal.the-variants as refusal
+use Rattle.common.specs.declared.Refusal.{Refusal}
+use Rattle.memory.specs.Gate.{Refused as Shut, opens, accessGate}
+use Rattle.memory.specs.Gate.Laws.{map-alone, is-open, is-shut}
 use Rattle.memory.specs.Memory.{Memory}
 use Rattle.mmu.specs.Check.{pageAddr}
-use Rattle.mmu.specs.Tlb.{noEntry, firstMatch}
+use Rattle.mmu.specs.Tlb.{noEntry}
+use Rattle.mmu.specs.Vm.{slotOf}
 use Rattle.mmu.specs.Walk.{walkOf}
 use Rattle.mmu.specs.declared.tlb.Slot.{Slot}
 use Rattle.mmu.specs.declared.tlb.Slot.the-variants.{At, Nothing}
 use Rattle.mmu.specs.declared.tlb.TlbEntry.{TlbEntry}
 use Rattle.mmu.specs.declared.vm.Vm.{Vm}
 use Rattle.mmu.specs.declared.walk.WalkAnswer.{WalkAnswer}
+use Rattle.mmu.specs.declared.walk.Walked.{Walked}
 use Rattle.mmu.specs.declared.walk.Walked.the-variants as walked
-use Rattle.privilege.specs.Access.{mapGood}
-use Rattle.privilege.specs.Debug.{flagsOf, mappedTo, byWalk, debugTranslated, slotView}
+use Rattle.privilege.specs.Debug.{flagsOf, mappedTo, byWalk, bySlot, debugTranslated, slotView}
 use Rattle.privilege.specs.declared.debug.DebugTranslation.{DebugTranslation}
 use Rattle.privilege.specs.declared.debug.DebugTranslation.the-variants.{Unmapped, BusError, Refused}
 use Rattle.privilege.specs.declared.debug.TlbFlags.{TlbFlags}
@@ -40,19 +43,22 @@ module _ (va : ℕ) (o w : WalkAnswer) (is : w ≡ o) where
   walk-bus p = rw (← is, p)
 
 -- `debug_translate`
-module _ (m : Memory) (s : SystemState) (va : ℕ) (good : Bool) (is : good ≡ mapGood m) where
-  pub view-refused : good ≡ false → Refused refusal.Map ≡ debugTranslated m s va
+module _ (m : Memory) (s : SystemState) (va : ℕ) (ok : Bool) (is : ok ≡ opens (accessGate m true)) where
+  pub view-refused : (r : Refusal) → ok ≡ false → Shut r ≡ accessGate m false → Refused r ≡ debugTranslated m s va
   unfolding debugTranslated
-  view-refused h = rw (← is, h)
+  view-refused r h e = rw (← (map-alone m), is-shut m true r (sym is ∙ h) e)
 
-  module _ (p : Slot) (at : p ≡ firstMatch (va / 4096) 0 (s .vm .tlb)) (r : DebugTranslation) where
-    pub view-resident : (i : ℕ) → good ≡ true → p ≡ At i → r ≡ mappedTo (getD (s .vm .tlb) i noEntry) va true → r ≡ debugTranslated m s va
-    unfolding debugTranslated
-    view-resident i h e q = q ∙ rw (← is, h, ← at, e)
+  pub view-shown : (r : DebugTranslation) → ok ≡ true → r ≡ bySlot (s .vm) va (walkOf m (s .vm .ptbr) va .walked) (slotOf (s .vm) va) → r ≡ debugTranslated m s va
+  unfolding debugTranslated
+  view-shown r h q = q ∙ rw (← (map-alone m), is-open m true (sym is ∙ h))
 
-    pub view-walked : good ≡ true → p ≡ Nothing → r ≡ byWalk va (walkOf m (s .vm .ptbr) va .walked) → r ≡ debugTranslated m s va
-    unfolding debugTranslated
-    view-walked h e q = q ∙ rw (← is, h, ← at, e)
+-- `debug_lookup`, where the walk would answer w
+module _ (vm : Vm) (va : ℕ) (w : Walked) (p : Slot) (at : p ≡ slotOf vm va) (r : DebugTranslation) where
+  pub view-resident : (i : ℕ) → p ≡ At i → r ≡ mappedTo (getD (vm .tlb) i noEntry) va true → r ≡ bySlot vm va w (slotOf vm va)
+  view-resident i e q = q ∙ rw (← at, e)
+
+  pub view-walked : p ≡ Nothing → r ≡ byWalk va w → r ≡ bySlot vm va w (slotOf vm va)
+  view-walked e q = q ∙ rw (← at, e)
 
 pub view-is : (vm : Vm) (i : ℕ) (f : TlbFlags) → f ≡ flagsOf (getD (vm .tlb) (i % 16) noEntry .flags)
     → (let e = getD (vm .tlb) (i % 16) noEntry in

@@ -3,17 +3,15 @@
 --
 --   fetchSize, dataSize n == a fetch has 2 or 4 bytes, a load or store 1, 2 or 4
 --   legalSize k n       == the sizes of an access
---   gated good legal a r == refusal 2 where the map is not good, then 1 where the size is not legal, else a
 --   translatingOf s     == a user's accesses are translated: `translating`
 --   allowsOf s a n k    == "Supervisor: always allowed. User, translation off: each byte ..": `allows`
 --   checkAccess m s a n k == the check: `check_access`
 use Prim.Native.Nat.{ℕ}
 use mathlib.Core.Bool.{Bool, cond, not, _&&_, _||_}
 use lib.Dec.{eqb}
-use lib.ListN.{length}
 use Rattle.common.specs.declared.Refusal.{Refusal}
-use Rattle.common.specs.declared.Refusal.the-variants.{Size, Map}
-use Rattle.memory.specs.Memory.{Memory, goodMap}
+use Rattle.memory.specs.Gate.{gated, accessGate}
+use Rattle.memory.specs.Memory.{Memory}
 use Rattle.mmu.specs.Check.{checkEach, pagesOf}
 use Rattle.mmu.specs.declared.check.Checked.{Checked}
 use Rattle.mmu.specs.declared.check.Verdict.{Verdict}
@@ -21,7 +19,7 @@ use Rattle.mmu.specs.declared.check.Verdict.the-variants as verdict
 use Rattle.mmu.specs.declared.exception.Access.{Access}
 use Rattle.mmu.specs.declared.exception.Access.the-variants.{Read, Write, Fetch}
 use Rattle.mmu.specs.declared.exception.Exception.the-variants.{ProtectionFault}
-use Rattle.privilege.specs.Addresses.{stepped}
+use Rattle.privilege.specs.Addresses.{addresses}
 use Rattle.privilege.specs.Region.{allAllowed}
 use Rattle.privilege.specs.State.{withVm}
 use Rattle.privilege.specs.declared.check.Permission.{Permission}
@@ -41,18 +39,11 @@ legalSize Read n = dataSize n
 legalSize Write n = dataSize n
 legalSize Fetch n = fetchSize n
 
--- "Order: for an access or check 2, then 1"
-abbrev pub gated : {A : Type 0} → Bool → Bool → A → (Refusal → A) → A
-gated good legal answer refused = cond good (cond legal answer (refused Size)) (refused Map)
-
-abbrev pub mapGood : Memory → Bool
-mapGood m = goodMap (m .base) (length (m .bytes))
-
 unfoldable pub translatingOf : SystemState → Bool
 translatingOf s = s .user && s .vm .enabled
 
 unfoldable pub allowsOf : SystemState → ℕ → ℕ → Access → Bool
-allowsOf s a n k = not (s .user) || allAllowed (s .regions) k (stepped n a)
+allowsOf s a n k = not (s .user) || allAllowed (s .regions) k (addresses n a)
 
 abbrev pub permissionOf : Verdict → Permission
 permissionOf verdict.Allowed = Allowed
@@ -73,4 +64,4 @@ unfoldable pub checkLegal : Memory → SystemState → ℕ → ℕ → Access �
 checkLegal m s a n k = cond (translatingOf s) (fromPages s (checkEach m k (s .vm) (pagesOf a n))) (byRegions s a n k)
 
 unfoldable pub checkAccess : Memory → SystemState → ℕ → ℕ → Access → AccessChecked
-checkAccess m s a n k = gated (mapGood m) (legalSize k n) (checkLegal m s a n k) (λ (r : Refusal). accessAnswered s (Refused r))
+checkAccess m s a n k = gated (accessGate m (legalSize k n)) (checkLegal m s a n k) (λ (r : Refusal). accessAnswered s (Refused r))

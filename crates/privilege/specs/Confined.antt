@@ -16,11 +16,13 @@ use lib.ListN.{length, getD}
 use borrow.Author.Tests.{eqb-true}
 use Rattle.common.specs.Cases.{absurd-eq, cond-holds, cond-case}
 use Rattle.common.specs.Lists.{Each, each-map}
+use Rattle.memory.specs.Gate.{accessGate}
+use Rattle.memory.specs.Gate.Laws.{gated-holds, gated-case, access-open, access-same}
 use Rattle.memory.specs.Memory.{Memory}
 use Rattle.memory.specs.Memory.Laws.{SameMap}
 use Rattle.mmu.specs.Check.{checkPage, checkEach, pagesOf}
-use Rattle.mmu.specs.Vm.{frameOf}
-use Rattle.mmu.specs.Opened.{frameOf as entryFrame, Opened, opened}
+use Rattle.mmu.specs.Vm.{frameOf, slotOf}
+use Rattle.mmu.specs.Opened.{entryFrame, Opened, opened}
 use Rattle.mmu.specs.Opened.Laws.{TablesAgree, Refilled, kept, passed, each-same, each-one, refilled-each, refilled-page, refilled-enabled, pages-small, pages-one}
 use Rattle.mmu.specs.Tlb.{noEntry, firstMatch}
 use Rattle.mmu.specs.declared.check.Checked.{Checked}
@@ -29,9 +31,8 @@ use Rattle.mmu.specs.declared.check.Verdict.the-variants as verdict
 use Rattle.mmu.specs.declared.exception.Access.{Access}
 use Rattle.mmu.specs.declared.exception.Access.the-variants.{Read, Write, Fetch}
 use Rattle.mmu.specs.declared.tlb.Slot.the-variants.{At}
-use Rattle.privilege.specs.Access.{fetchSize, dataSize, legalSize, mapGood, translatingOf, permissionOf, fromPages, byRegions, checkLegal, checkAccess}
-use Rattle.privilege.specs.Access.Laws.{good-same}
-use Rattle.privilege.specs.Addresses.{stepped}
+use Rattle.privilege.specs.Access.{fetchSize, dataSize, legalSize, translatingOf, permissionOf, fromPages, byRegions, checkLegal, checkAccess}
+use Rattle.privilege.specs.Addresses.{addresses}
 use Rattle.privilege.specs.State.{withVm}
 use Rattle.privilege.specs.Transfer.{physicalOf, spots}
 use Rattle.privilege.specs.declared.check.AccessChecked.{AccessChecked}
@@ -56,7 +57,7 @@ legal-same m m′ s a n k h same =
 pub tables-check : (m m′ : Memory) (s : SystemState) (a n : ℕ) (k : Access) → a < 2 ^ 32 → SameMap m m′ → TablesAgree m m′ (s .vm .ptbr)
     → checkAccess m s a n k ≡ checkAccess m′ s a n k
 unfolding checkAccess
-tables-check m m′ s a n k h same tables = rw (good-same m m′ same, legal-same m m′ s a n k h tables)
+tables-check m m′ s a n k h same tables = rw (access-same m m′ same (legalSize k n), legal-same m m′ s a n k h tables)
 
 -- ---- what a check keeps
 
@@ -66,13 +67,11 @@ same-state m s = record { rest = refl; refilled = kept }
 pub check-refills : (m : Memory) (s : SystemState) (a n : ℕ) (k : Access) → a < 2 ^ 32 → Refills m s (checkAccess m s a n k .sys)
 unfolding checkAccess checkLegal
 check-refills m s a n k h =
-    cond-holds RefillsBy (mapGood m)
-    (cond-holds RefillsBy (legalSize k n)
+    gated-holds RefillsBy (accessGate m (legalSize k n))
     (cond-holds RefillsBy (translatingOf s)
     (record { rest = refl; refilled = refilled-each m k (s .vm) (pagesOf a n) (pages-small a n h) (s .vm) kept })
     (same-state m s))
-    (same-state m s))
-    (same-state m s)
+    (λ r. same-state m s)
   where
     RefillsBy : AccessChecked → Type 0
     RefillsBy c = Refills m s (c .sys)
@@ -108,14 +107,14 @@ in-page a n s h =
     (λ t. ⊎-elim (λ e. let g : a % 2 ≡ 0 = rw e at h in (omega arith, omega arith)) (λ e. let g : a % 4 ≡ 0 = rw e at h in (omega arith, omega arith)) t) s
 
 -- a page that is resident with entry i: each of its bytes lies in that entry's frame
-physical-in : (s : SystemState) (va i : ℕ) → translatingOf s ≡ true → firstMatch (va / 4096) 0 (s .vm .tlb) ≡ At i
+physical-in : (s : SystemState) (va i : ℕ) → translatingOf s ≡ true → slotOf (s .vm) va ≡ At i
     → physicalOf s va / 4096 ≡ entryFrame (getD (s .vm .tlb) i noEntry)
 unfolding physicalOf frameOf
 physical-in s va i t p = rw (t, p) (omega arith)
 
 spots-in : (s : SystemState) (p i : ℕ) → translatingOf s ≡ true → firstMatch p 0 (s .vm .tlb) ≡ At i → p < 2 ^ 20 → (n va : ℕ) → va / 4096 ≡ p → va % 4096 + n ≤ 4096
-    → Each (λ a. a / 4096 ≡ entryFrame (getD (s .vm .tlb) i noEntry)) (map (physicalOf s) (stepped n va))
-unfolding stepped
+    → Each (λ a. a / 4096 ≡ entryFrame (getD (s .vm .tlb) i noEntry)) (map (physicalOf s) (addresses n va))
+unfolding addresses
 spots-in s p i t q h zero va e g = tt
 spots-in s p i t q h (suc zero) va e g = (physical-in s va i t (rw e q), tt)
 spots-in s p i t q h (suc (suc n)) va e g =
@@ -140,13 +139,11 @@ verdict-allowed (verdict.Denied e) p = absurd-eq (cc)
 through : (m : Memory) (s : SystemState) (a n : ℕ) (k : Access) → Running s → checkAccess m s a n k .permission ≡ Allowed → Through m s a n k (checkAccess m s a n k)
 unfolding checkAccess checkLegal
 through m s a n k run =
-    cond-case Passes (mapGood m)
-    (λ g. cond-case Passes (legalSize k n)
-    (λ l. cond-case Passes (translatingOf s)
-    (λ t p. record { legal = l; pages = verdict-allowed (checkEach m k (s .vm) (pagesOf a n) .verdict) p; leaves = refl })
+    gated-case Passes (accessGate m (legalSize k n))
+    (λ g. cond-case Passes (translatingOf s)
+    (λ t p. record { legal = access-open m (legalSize k n) g .1; pages = verdict-allowed (checkEach m k (s .vm) (pagesOf a n) .verdict) p; leaves = refl })
     (λ t p. absurd-eq (let z : true ≡ false = sym (running-translates s run) ∙ t in cc)))
-    (λ l p. absurd-eq (cc)))
-    (λ g p. absurd-eq (cc))
+    (λ r g p. absurd-eq (cc))
   where
     Passes : AccessChecked → Type 0
     Passes c = c .permission ≡ Allowed → Through m s a n k c
@@ -166,5 +163,5 @@ aligned-open m s a n k run slots h al p =
     let frame = entryFrame (getD (after .tlb) (pass .slot) noEntry) in
     rw (thr .leaves, one, page .1)
     (each-map (λ b. b / 4096 ≡ frame) (λ b. Opened m (s .vm) k b) (λ b q. opened (getD (after .tlb) (pass .slot) noEntry) (pass .usable) (pass .low) (pass .granted) q)
-    (map (physicalOf (withVm s after)) (stepped n a))
+    (map (physicalOf (withVm s after)) (addresses n a))
     (spots-in (withVm s after) (a / 4096) (pass .slot) on (pass .again) (omega arith) n a refl (fits .1)))

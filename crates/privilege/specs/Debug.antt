@@ -4,14 +4,16 @@
 --   flagsOf w                == R, W, X and U of an entry's flags: `from_pte`
 --   debugTranslated m s va   == "looks up or walks in any mode, fills nothing and checks no permission": `debug_translate`
 --   slotView vm i            == one slot, its index "read modulo 16"
-use Prim.Native.Nat.{ℕ, _/_, _%_}
-use mathlib.Core.Bool.{Bool, true, false, cond}
+use Prim.Native.Nat.{ℕ, _%_}
+use mathlib.Core.Bool.{Bool, true, false}
 use lib.ListN.{getD}
 use Rattle.common.specs.Bits.{bitSet}
-use Rattle.common.specs.declared.Refusal.the-variants as refusal
+use Rattle.common.specs.declared.Refusal.{Refusal}
+use Rattle.memory.specs.Gate.{gated, mapGate}
 use Rattle.memory.specs.Memory.{Memory}
 use Rattle.mmu.specs.Check.{pageAddr}
-use Rattle.mmu.specs.Tlb.{noEntry, firstMatch}
+use Rattle.mmu.specs.Tlb.{noEntry}
+use Rattle.mmu.specs.Vm.{slotOf}
 use Rattle.mmu.specs.Walk.{walkOf}
 use Rattle.mmu.specs.declared.tlb.Slot.{Slot}
 use Rattle.mmu.specs.declared.tlb.Slot.the-variants.{At, Nothing}
@@ -19,7 +21,6 @@ use Rattle.mmu.specs.declared.tlb.TlbEntry.{TlbEntry}
 use Rattle.mmu.specs.declared.vm.Vm.{Vm}
 use Rattle.mmu.specs.declared.walk.Walked.{Walked}
 use Rattle.mmu.specs.declared.walk.Walked.the-variants as walked
-use Rattle.privilege.specs.Access.{mapGood}
 use Rattle.privilege.specs.Transfer.{joinedTo}
 use Rattle.privilege.specs.declared.debug.DebugTranslation.{DebugTranslation}
 use Rattle.privilege.specs.declared.debug.DebugTranslation.the-variants.{Mapped, Unmapped, BusError, Refused}
@@ -45,8 +46,7 @@ bySlot vm va w Nothing = byWalk va w
 
 unfoldable pub debugTranslated : Memory → SystemState → ℕ → DebugTranslation
 debugTranslated m s va =
-    cond (mapGood m) (bySlot (s .vm) va (walkOf m (s .vm .ptbr) va .walked) (firstMatch (va / 4096) 0 (s .vm .tlb)))
-    (Refused refusal.Map)
+    gated (mapGate m) (bySlot (s .vm) va (walkOf m (s .vm .ptbr) va .walked) (slotOf (s .vm) va)) (λ (r : Refusal). Refused r)
 
 abbrev pub viewOf : ℕ → TlbEntry → TlbEntryView
 viewOf i e =

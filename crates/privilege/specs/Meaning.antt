@@ -14,13 +14,14 @@ use lib.ListN.{length, getD, set}
 use Rattle.common.specs.Bits.{bitSet}
 use Rattle.common.specs.declared.Refusal.{Refusal}
 use Rattle.common.specs.declared.Refusal.the-variants.{Size, Map, Register}
+use Rattle.memory.specs.Gate.{mapGood}
 use Rattle.memory.specs.Memory.{Memory}
 use Rattle.mmu.specs.Check.{checkEach, pagesOf}
 use Rattle.mmu.specs.Exception.{regionBit}
 use Rattle.mmu.specs.Tlb.{noEntry, noEntries}
 use Rattle.mmu.specs.declared.exception.Access.{Access}
 use Rattle.mmu.specs.declared.exception.Exception.the-variants.{ProtectionFault}
-use Rattle.privilege.specs.Access.{legalSize, mapGood, accessAnswered, fromPages, checkAccess, allowsOf}
+use Rattle.privilege.specs.Access.{legalSize, accessAnswered, fromPages, checkAccess, allowsOf}
 use Rattle.mmu.specs.Tlb.Laws.{markDropped}
 use Rattle.privilege.specs.Region.{grantsOf, byteAllowed, fieldOf, withField}
 use Rattle.privilege.specs.Registers.{written, srRead, srWritten, vmEnabled}

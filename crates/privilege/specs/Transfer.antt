@@ -14,13 +14,14 @@ use mathlib.Core.Bool.{cond}
 use mathlib.Core.List.{List, map}
 use Rattle.common.specs.Bytes.{bytesOf}
 use Rattle.common.specs.declared.Refusal.{Refusal}
-use Rattle.memory.specs.Memory.{Memory, readAt, putAt, allInside}
+use Rattle.memory.specs.Gate.{gated, accessGate}
+use Rattle.memory.specs.Memory.{Memory, readAt, putAt, allWritable}
 use Rattle.memory.specs.declared.Content.{Content}
 use Rattle.memory.specs.declared.Content.the-variants as content
 use Rattle.mmu.specs.Check.{pageAddr}
 use Rattle.mmu.specs.Vm.{frameOf}
-use Rattle.privilege.specs.Access.{dataSize, gated, mapGood, translatingOf}
-use Rattle.privilege.specs.Addresses.{stepped}
+use Rattle.privilege.specs.Access.{dataSize, translatingOf}
+use Rattle.privilege.specs.Addresses.{addresses}
 use Rattle.privilege.specs.declared.state.SystemState.{SystemState}
 use Rattle.privilege.specs.declared.transfer.DataRead.{DataRead}
 use Rattle.privilege.specs.declared.transfer.DataRead.the-variants as read
@@ -35,7 +36,7 @@ unfoldable pub physicalOf : SystemState → ℕ → ℕ
 physicalOf s va = cond (translatingOf s) (joinedTo (frameOf (s .vm) va) va) va
 
 unfoldable pub spots : SystemState → ℕ → ℕ → List ℕ
-spots s va n = map (physicalOf s) (stepped n va)
+spots s va n = map (physicalOf s) (addresses n va)
 
 -- "A load .. with any byte outside the map answers bus error and no value"
 abbrev pub readOf : Content → DataRead
@@ -44,14 +45,14 @@ readOf content.Outside = read.BusError
 
 -- a load of n bytes from any addresses
 unfoldable pub loadAt : Memory → ℕ → List ℕ → DataRead
-loadAt m n l = gated (mapGood m) (dataSize n) (readOf (readAt m l)) (λ (r : Refusal). read.Refused r)
+loadAt m n l = gated (accessGate m (dataSize n)) (readOf (readAt m l)) (λ (r : Refusal). read.Refused r)
 
 -- "a store writes its inside bytes and answers bus error"
 unfoldable pub storeAt : Memory → ℕ → List ℕ → DataWritten
-storeAt m n l = gated (mapGood m) (dataSize n) (cond (allInside m l) written.Done written.BusError) (λ (r : Refusal). written.Refused r)
+storeAt m n l = gated (accessGate m (dataSize n)) (cond (allWritable m l) written.Done written.BusError) (λ (r : Refusal). written.Refused r)
 
 unfoldable pub memoryAt : Memory → ℕ → List ℕ → ℕ → Memory
-memoryAt m n l v = gated (mapGood m) (dataSize n) (putAt m l (bytesOf n v)) (λ (r : Refusal). m)
+memoryAt m n l v = gated (accessGate m (dataSize n)) (putAt m l (bytesOf n v)) (λ (r : Refusal). m)
 
 abbrev pub dataRead : Memory → SystemState → ℕ → ℕ → DataRead
 dataRead m s va n = loadAt m n (spots s va n)

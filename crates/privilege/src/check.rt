@@ -5,7 +5,8 @@ ghost use Rattle.privilege.specs.Access.{fetchSize, dataSize, legalSize,
 use crate::region::all_allowed;
 use crate::state::SystemState;
 use common::Refusal;
-use memory::good_map;
+use memory::gate::is_open;
+use memory::gate::refusal;
 use mmu::check::Verdict;
 use mmu::exception::Access;
 use mmu::exception::Exception;
@@ -110,13 +111,10 @@ impl SystemState {
     ) -> AccessChecked
         ensures { λ r. ⌜ r ≡ checkAccess (lent base (now (mem .entry))) self addr len access ⌝ }
     {
-        if good_map(mem, base) {
-            if legal_size(len, access) {
-                return self.check_legal(mem, base, addr, len, access);
-            }
-            return answer(self, Permission::Refused(Refusal::Size));
+        if is_open(mem, base, legal_size(len, access)) {
+            return self.check_legal(mem, base, addr, len, access);
         }
-        answer(self, Permission::Refused(Refusal::Map))
+        answer(self, Permission::Refused(refusal(mem, base)))
     }
 
     // An access of a legal size over a good map.

@@ -1,12 +1,14 @@
 // The debugger's view: a translation without side effects, and one TLB slot.
 ghost use mathlib.Core.Path.{_≡_};
 ghost use Rattle.memory.specs.Memory.{lent};
+ghost use Rattle.mmu.specs.Vm.{slotOf};
 ghost use Rattle.mmu.specs.Walk.{walkOf};
-ghost use Rattle.privilege.specs.Debug.{flagsOf, mappedTo, byWalk, debugTranslated, slotView};
+ghost use Rattle.privilege.specs.Debug.{flagsOf, mappedTo, byWalk, bySlot, debugTranslated, slotView};
 use crate::state::SystemState;
 use crate::transfer::join;
 use common::Refusal;
-use memory::good_map;
+use memory::gate::is_open;
+use memory::gate::refusal;
 use mmu::tlb::Slot;
 use mmu::tlb::TLB_ENTRIES;
 use mmu::tlb::TlbEntry;
@@ -75,18 +77,25 @@ impl SystemState {
     pub fn debug_translate(self, mem: &[u8], base: u32, va: u32) -> DebugTranslation
         ensures { λ r. ⌜ r ≡ debugTranslated (lent base (now (mem .entry))) self va ⌝ }
     {
-        if good_map(mem, base) {
-            let vm = self.vm;
-            let slot = vm.lookup(va >> 12);
-            match slot {
-                Slot::At(i) => {
-                    let entry = vm.tlb[i];
-                    return mapped(entry, va, true);
-                }
-                Slot::Nothing => return self.debug_walk(mem, base, va),
-            }
+        if is_open(mem, base, true) {
+            return self.debug_lookup(mem, base, va);
         }
-        DebugTranslation::Refused(Refusal::Map)
+        DebugTranslation::Refused(refusal(mem, base))
+    }
+
+    // The page's entry in the TLB, or what a walk finds.
+    fn debug_lookup(self, mem: &[u8], base: u32, va: u32) -> DebugTranslation
+        ensures { λ r. ⌜ r ≡ bySlot (self .vm) va (walkOf (lent base (now (mem .entry))) (self .vm .ptbr) va .walked) (slotOf (self .vm) va) ⌝ }
+    {
+        let vm = self.vm;
+        let slot = vm.lookup(va >> 12);
+        match slot {
+            Slot::At(i) => {
+                let entry = vm.tlb[i];
+                mapped(entry, va, true)
+            }
+            Slot::Nothing => self.debug_walk(mem, base, va),
+        }
     }
 
     fn debug_walk(self, mem: &[u8], base: u32, va: u32) -> DebugTranslation

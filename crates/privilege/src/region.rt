@@ -1,6 +1,6 @@
 // Regions: which addresses a user may touch while translation is off.
 ghost use mathlib.Core.Path.{_≡_};
-ghost use Rattle.privilege.specs.Addresses.{stepped};
+ghost use Rattle.privilege.specs.Addresses.{addresses};
 ghost use Rattle.privilege.specs.Region.{grantsOf, allAllowed, fieldOf, withField, fieldWritten};
 use crate::flat::regions::put_regions;
 use mmu::exception::Access;
@@ -75,7 +75,7 @@ pub fn write_field(regions: [Region; 8], n: usize, field: usize, value: u32) -> 
 
 // Every byte of an access.
 pub fn all_allowed(regions: [Region; 8], addr: u32, len: u32, access: Access) -> bool
-    ensures { λ r. ⌜ r ≡ allAllowed regions access (stepped len addr) ⌝ }
+    ensures { λ r. ⌜ r ≡ allAllowed regions access (addresses len addr) ⌝ }
 {
     let mut words = [0u32; 24];
     put_regions(&mut words, regions);

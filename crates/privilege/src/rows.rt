@@ -1,11 +1,11 @@
 // The data of an access, given where its bytes are: no byte is looked up again. Inside a page they stand in one row; over two
 // pages an access goes byte by byte.
 ghost use mathlib.Core.Path.{_≡_};
-ghost use mathlib.Core.Bool.{cond, true};
+ghost use mathlib.Core.Bool.{true};
 ghost use Prim.Native.Nat.{ℕ, _≤_, _<_};
 ghost use Rattle.common.specs.Bytes.{bytesOf};
-ghost use Rattle.memory.specs.Memory.{lent, byteAt, readAt, inside, putByte, putAt, allInside};
-ghost use Rattle.privilege.specs.Access.{mapGood};
+ghost use Rattle.memory.specs.Gate.{mapGood};
+ghost use Rattle.memory.specs.Memory.{lent, byteAt, readAt, writable, putByte, putAt, allWritable};
 ghost use Rattle.privilege.specs.Rows.{placeOf, rowsOf};
 ghost use Rattle.privilege.specs.Transfer.{loadAt, storeAt, memoryAt};
 use crate::check::data_size;
@@ -15,10 +15,11 @@ use crate::transfer::DataWritten;
 use crate::transfer::and;
 use crate::transfer::byte_of;
 use crate::transfer::read_of;
-use common::Refusal;
+use crate::transfer::written_of;
 use memory::Content;
 use memory::MAP_END;
-use memory::good_map;
+use memory::gate::is_open;
+use memory::gate::refusal;
 use memory::put_byte;
 use memory::read_byte;
 use memory::read_word;
@@ -26,30 +27,26 @@ use memory::span::put_half;
 use memory::span::put_word;
 use memory::span::read_half;
 
-// Big-endian load of 1, 2 or 4 bytes: `pa` is where the first byte is, `pb` where the second page starts. A word inside its page
-// is frequent, and asked first.
+// Big-endian load of 1, 2 or 4 bytes: `pa` is where the first byte is, `pb` where the second page starts.
 pub fn read_rows(mem: &[u8], base: u32, addr: u32, size: u32, pa: u32, pb: u32) -> DataRead
     ensures { λ r. ⌜ r ≡ loadAt (lent base (now (mem .entry))) size (rowsOf addr size pa pb) ⌝ }
 {
-    if good_map(mem, base) {
-        if size == 4 {
-            if addr % PAGE_SIZE <= PAGE_SIZE - 4 {
-                return read_of(read_word(mem, base, pa));
-            }
-        }
-        if data_size(size) {
-            return read_of(read_other(mem, base, addr, size, pa, pb));
-        }
-        return DataRead::Refused(Refusal::Size);
+    if is_open(mem, base, data_size(size)) {
+        return read_of(read_there(mem, base, addr, size, pa, pb));
     }
-    DataRead::Refused(Refusal::Map)
+    DataRead::Refused(refusal(mem, base))
 }
 
-// A half or a byte inside its page, or any bytes one by one.
-fn read_other(mem: &[u8], base: u32, addr: u32, size: u32, pa: u32, pb: u32) -> Content
+// A word, a half or a byte inside its page, or any bytes one by one.
+fn read_there(mem: &[u8], base: u32, addr: u32, size: u32, pa: u32, pb: u32) -> Content
     requires { ⌜ (size ≤ 4) × (mapGood (lent base (now mem)) ≡ true) ⌝ }
     ensures { λ r. ⌜ r ≡ readAt (lent base (now (mem .entry))) (rowsOf addr size pa pb) ⌝ }
 {
+    if size == 4 {
+        if addr % PAGE_SIZE <= PAGE_SIZE - 4 {
+            return read_word(mem, base, pa);
+        }
+    }
     if size == 1 {
         return read_byte(mem, base, pa);
     }
@@ -86,7 +83,7 @@ fn read_place(mem: &[u8], base: u32, at: u64) -> Content
 
 fn put_place(mem: &mut [u8], base: u32, at: u64, b: u8) -> bool
     requires { ⌜ mapGood (lent base (now mem)) ≡ true ⌝ }
-    ensures { λ r. ⌜ (r ≡ inside (lent base (now (mem .entry))) at) × (now (mem .exit) ≡ putByte (lent base (now (mem .entry))) at b .bytes) ⌝ }
+    ensures { λ r. ⌜ (r ≡ writable (lent base (now (mem .entry))) at) × (now (mem .exit) ≡ putByte (lent base (now (mem .entry))) at b .bytes) ⌝ }
 {
     if at >= MAP_END {
         return false;
@@ -113,16 +110,6 @@ fn read_apart(mem: &[u8], base: u32, addr: u32, size: u32, pa: u32, pb: u32) -> 
     }
 }
 
-fn written_of(all: bool) -> DataWritten
-    ensures { λ r. ⌜ r ≡ cond all DataWritten.Done DataWritten.BusError ⌝ }
-{
-    if all {
-        DataWritten::Done
-    } else {
-        DataWritten::BusError
-    }
-}
-
 // Big-endian store of 1, 2 or 4 bytes. Bytes outside are not written, the others are.
 pub fn write_rows(
     mem: &mut [u8],
@@ -135,22 +122,14 @@ pub fn write_rows(
 ) -> DataWritten
     ensures { λ r. ⌜ (r ≡ storeAt (lent base (now (mem .entry))) size (rowsOf addr size pa pb)) × (now (mem .exit) ≡ memoryAt (lent base (now (mem .entry))) size (rowsOf addr size pa pb) value .bytes) ⌝ }
 {
-    if good_map(mem, base) {
-        if size == 4 {
-            if addr % PAGE_SIZE <= PAGE_SIZE - 4 {
-                return written_of(put_word(mem, base, pa, value));
-            }
-        }
-        if data_size(size) {
-            return written_of(write_other(mem, base, addr, size, pa, pb, value));
-        }
-        return DataWritten::Refused(Refusal::Size);
+    if is_open(mem, base, data_size(size)) {
+        return written_of(write_there(mem, base, addr, size, pa, pb, value));
     }
-    DataWritten::Refused(Refusal::Map)
+    DataWritten::Refused(refusal(mem, base))
 }
 
-// A half or a byte inside its page, or any bytes one by one: whether all were inside.
-fn write_other(
+// A word, a half or a byte inside its page, or any bytes one by one: whether all were writable.
+fn write_there(
     mem: &mut [u8],
     base: u32,
     addr: u32,
@@ -160,8 +139,13 @@ fn write_other(
     value: u32,
 ) -> bool
     requires { ⌜ (size ≤ 4) × (mapGood (lent base (now mem)) ≡ true) ⌝ }
-    ensures { λ r. ⌜ (r ≡ allInside (lent base (now (mem .entry))) (rowsOf addr size pa pb)) × (now (mem .exit) ≡ putAt (lent base (now (mem .entry))) (rowsOf addr size pa pb) (bytesOf size value) .bytes) ⌝ }
+    ensures { λ r. ⌜ (r ≡ allWritable (lent base (now (mem .entry))) (rowsOf addr size pa pb)) × (now (mem .exit) ≡ putAt (lent base (now (mem .entry))) (rowsOf addr size pa pb) (bytesOf size value) .bytes) ⌝ }
 {
+    if size == 4 {
+        if addr % PAGE_SIZE <= PAGE_SIZE - 4 {
+            return put_word(mem, base, pa, value);
+        }
+    }
     if size == 1 {
         return put_byte(mem, base, pa, (value % 256) as u8);
     }
@@ -183,7 +167,7 @@ fn write_apart(
     value: u32,
 ) -> bool
     requires { ⌜ (size ≤ 4) × (mapGood (lent base (now mem)) ≡ true) ⌝ }
-    ensures { λ r. ⌜ (r ≡ allInside (lent base (now (mem .entry))) (rowsOf addr size pa pb)) × (now (mem .exit) ≡ putAt (lent base (now (mem .entry))) (rowsOf addr size pa pb) (bytesOf size value) .bytes) ⌝ }
+    ensures { λ r. ⌜ (r ≡ allWritable (lent base (now (mem .entry))) (rowsOf addr size pa pb)) × (now (mem .exit) ≡ putAt (lent base (now (mem .entry))) (rowsOf addr size pa pb) (bytesOf size value) .bytes) ⌝ }
 {
     let mut all = true;
     let mut i: u32 = 0;

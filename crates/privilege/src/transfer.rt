@@ -1,16 +1,17 @@
 // Data access after a successful check: where a byte is, loads and stores.
 ghost use mathlib.Core.Path.{_≡_};
-ghost use mathlib.Core.Bool.{_&&_};
+ghost use mathlib.Core.Bool.{cond, _&&_};
 ghost use Prim.Native.Nat.{_≤_, _<_, _%_, _/_, _^_};
 ghost use Rattle.common.specs.Bytes.{bytesOf};
-ghost use Rattle.memory.specs.Memory.{lent, readAt, putAt, allInside};
+ghost use Rattle.memory.specs.Memory.{lent, readAt, putAt, allWritable};
 ghost use Rattle.privilege.specs.Transfer.{joinedTo, physicalOf, spots, dataRead, dataWritten, memoryAfter, readOf};
 use crate::check::data_size;
 use crate::state::PAGE_SIZE;
 use crate::state::SystemState;
 use common::Refusal;
 use memory::Content;
-use memory::good_map;
+use memory::gate::is_open;
+use memory::gate::refusal;
 use memory::put_byte;
 use memory::read_byte;
 use memory::read_word;
@@ -57,6 +58,16 @@ pub(crate) fn read_of(content: Content) -> DataRead
     }
 }
 
+pub(crate) fn written_of(all: bool) -> DataWritten
+    ensures { λ r. ⌜ r ≡ cond all DataWritten.Done DataWritten.BusError ⌝ }
+{
+    if all {
+        DataWritten::Done
+    } else {
+        DataWritten::BusError
+    }
+}
+
 impl SystemState {
     // The physical address of a byte that `check_access` has allowed. The TLB is looked up again.
     pub fn physical(self, va: u32) -> u32
@@ -73,13 +84,10 @@ impl SystemState {
     pub fn read_data(self, mem: &[u8], base: u32, va: u32, size: u32) -> DataRead
         ensures { λ r. ⌜ r ≡ dataRead (lent base (now (mem .entry))) self va size ⌝ }
     {
-        if good_map(mem, base) {
-            if data_size(size) {
-                return read_of(self.read_spots(mem, base, va, size));
-            }
-            return DataRead::Refused(Refusal::Size);
+        if is_open(mem, base, data_size(size)) {
+            return read_of(self.read_spots(mem, base, va, size));
         }
-        DataRead::Refused(Refusal::Map)
+        DataRead::Refused(refusal(mem, base))
     }
 
     // A word inside a page takes one lookup.
@@ -127,22 +135,16 @@ impl SystemState {
     ) -> DataWritten
         ensures { λ r. ⌜ (r ≡ dataWritten (lent base (now (mem .entry))) self va size) × (now (mem .exit) ≡ memoryAfter (lent base (now (mem .entry))) self va size value .bytes) ⌝ }
     {
-        if good_map(mem, base) {
-            if data_size(size) {
-                if self.write_bytes(mem, base, va, size, value) {
-                    return DataWritten::Done;
-                }
-                return DataWritten::BusError;
-            }
-            return DataWritten::Refused(Refusal::Size);
+        if is_open(mem, base, data_size(size)) {
+            return written_of(self.write_bytes(mem, base, va, size, value));
         }
-        DataWritten::Refused(Refusal::Map)
+        DataWritten::Refused(refusal(mem, base))
     }
 
     // Whether all bytes were inside.
     fn write_bytes(self, mem: &mut [u8], base: u32, va: u32, size: u32, value: u32) -> bool
         requires { ⌜ size ≤ 4 ⌝ }
-        ensures { λ r. ⌜ (r ≡ allInside (lent base (now (mem .entry))) (spots self va size)) × (now (mem .exit) ≡ putAt (lent base (now (mem .entry))) (spots self va size) (bytesOf size value) .bytes) ⌝ }
+        ensures { λ r. ⌜ (r ≡ allWritable (lent base (now (mem .entry))) (spots self va size)) × (now (mem .exit) ≡ putAt (lent base (now (mem .entry))) (spots self va size) (bytesOf size value) .bytes) ⌝ }
     {
         let mut all = true;
         let mut at = va;

@@ -4,7 +4,7 @@
 --   decimalOf v             == v in decimal with no leading zeros; a number of 64 bits has at most twenty digits
 --   written (out, at) text  == the buffer with the text from place `at` on, and the next place; what has no room is left out
 use Prim.Native.Nat.{ℕ, zero, suc, _+_, _*_, _/_, _%_, _^_}
-use mathlib.Core.Bool.{Bool, cond}
+use mathlib.Core.Bool.{cond}
 use mathlib.Core.List.{List, [], _∷_}
 use lib.Dec.{ltb}
 use lib.ListN.{length, set}

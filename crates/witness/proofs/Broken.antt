@@ -18,7 +18,7 @@ use Rattle.isolation.specs.Premises.{Op, AllAligned}
 use Rattle.isolation.specs.Demand3.{Answer, ranOps, Isolated, Demand3}
 use Rattle.isolation.proofs.Runs.{demand3}
 use Rattle.witness.specs.Laid.{Word, laid}
-use Rattle.witness.specs.Scene.{onPage, tlbOf, userVm, userState, machineOf, load}
+use Rattle.witness.specs.Scene.{onPage, tlbOf, userVm, userState, machineWith, load}
 use Rattle.witness.proofs.Layouts.{one-resident, none-resident, Layout, layout, unhidden-tables, unhidden-pages, shut-tables, alike}
 use Rattle.witness.proofs.Computed.{answerTo, ran-one, ran-two, computed}
 use Rattle.witness.specs.Counterexamples.{Premise, alignment, userMode, translation, slots, likeness, unhiddenTables, unhiddenPages, shutTables, Holds, Counterexample, readable, supervisor, untranslated, onePage, twoLeaves, rootLeaf, ownLeaf, Needed}
@@ -62,7 +62,7 @@ module _ (w : Premise) (p q t f h i : ℕ) (l : List Word) (s : SystemState) (he
   Shown unhiddenPages = eqb h f ≡ false
   Shown shutTables = (eqb f q ≡ false) × (eqb f t ≡ false)
 
-  holds : (v : Premise) → Shown v → Holds v (onPage h) os (machineOf p s) (laid p ((i, 0) ∷ l)) (laid p ((i, 1) ∷ l))
+  holds : (v : Premise) → Shown v → Holds v (onPage h) os (machineWith p s) (laid p ((i, 0) ∷ l)) (laid p ((i, 1) ∷ l))
   holds alignment g = g
   holds userMode g = g
   holds translation g = g
@@ -76,8 +76,8 @@ module _ (w : Premise) (p q t f h i : ℕ) (l : List Word) (s : SystemState) (he
   Unless v = v ≢ w → Shown v
 
   counter : Unless alignment → Unless userMode → Unless translation → Unless slots → Unless likeness → Unless unhiddenTables → Unless unhiddenPages → Unless shutTables
-      → (x x′ : List Answer) → (ranOps os (machineOf p s) (laid p ((i, 0) ∷ l)) .answers ≡ x) × (ranOps os (machineOf p s) (laid p ((i, 1) ∷ l)) .answers ≡ x′) → outcomes x ≢ outcomes x′
-      → Counterexample w (onPage h) os (machineOf p s) (laid p ((i, 0) ∷ l)) (laid p ((i, 1) ∷ l)) x x′
+      → (x x′ : List Answer) → (ranOps os (machineWith p s) (laid p ((i, 0) ∷ l)) .answers ≡ x) × (ranOps os (machineWith p s) (laid p ((i, 1) ∷ l)) .answers ≡ x′) → outcomes x ≢ outcomes x′
+      → Counterexample w (onPage h) os (machineWith p s) (laid p ((i, 0) ∷ l)) (laid p ((i, 1) ∷ l)) x x′
   counter aligned user enabled sixteen like tables pages shut x x′ runs apart =
       record { others = λ v n. holds v (by-name v n); answers = runs .0; answers′ = runs .1; differ = λ e. apart (ap outcomes e) }
     where

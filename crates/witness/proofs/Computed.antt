@@ -15,7 +15,8 @@ use Rattle.common.specs.Bits.{bitSet}
 use Rattle.common.specs.Bytes.{bytesOf}
 use Rattle.cache.specs.Bank.{noTags, accessed, lineDropped}
 use Rattle.cache.specs.Cache.{cacheableAt, loaded, stored}
-use Rattle.memory.specs.Memory.{Memory, byteAt, gathered, allInside}
+use Rattle.memory.specs.Gate.{accessGate}
+use Rattle.memory.specs.Memory.{Memory, byteAt, gathered, allWritable}
 use Rattle.memory.specs.declared.Content.the-variants as content
 use Rattle.mmu.specs.Check.{permits, judged, byWalk, bySlot, checkWith, checkPage, afterPage, checkEach, pagesAfter, pagesOf}
 use Rattle.mmu.specs.Tlb.{noEntry, matches, firstMatch}
@@ -24,7 +25,7 @@ use Rattle.mmu.specs.Walk.{tableOk, leafOk, leafEntry, walkLeaf, walkTable, wal
 use Rattle.mmu.specs.declared.exception.Access.the-variants.{Read}
 use Rattle.mmu.specs.declared.exception.Exception.the-variants.{PageFault}
 use Rattle.privilege.specs.Access.{fetchSize, dataSize, legalSize, translatingOf, allowsOf, checkLegal, checkAccess}
-use Rattle.privilege.specs.Addresses.{stepped}
+use Rattle.privilege.specs.Addresses.{addresses}
 use Rattle.privilege.specs.Region.{grantsOf, someGrants, allAllowed}
 use Rattle.privilege.specs.State.{withVm}
 use Rattle.privilege.specs.Transfer.{physicalOf, spots, loadAt, storeAt, memoryAt}
@@ -36,7 +37,7 @@ use Rattle.isolation.specs.Premises.{Op}
 use Rattle.isolation.specs.Demand3.{Answer, resultOf, answerOf, ranOps}
 use Rattle.witness.specs.Laid.{laid}
 use Rattle.witness.specs.Laid.Laws.{byteIn, contentIn, laid-good, laid-inside, laid-byte, laid-read, laid-write}
-use Rattle.witness.specs.Scene.{tlbOf, userVm, userState, machineOf, load, store, answer}
+use Rattle.witness.specs.Scene.{tlbOf, userVm, userState, machineWith, load, store, answer}
 use Rattle.witness.proofs.Layouts.{fits}
 use Rattle.witness.specs.Witness.{visible, memory, machine}
 use Rattle.witness.specs.Counterexamples.{readable, supervisor, untranslated, onePage, twoLeaves, fourPages, rootLeaf, rootPage, ownLeaf, writableTable}
@@ -64,7 +65,7 @@ ran-two o o′ M M′ m m′ x x′ e e′ =
 -- a machine that has filled virtual page 0, in frame f, for reading and writing
 abbrev pub walked : ℕ → ℕ → Machine
 walked p f =
-    machineOf p (withVm (userState 0 (tlbOf noEntry)) (withTlb (userVm 0 (tlbOf noEntry)) (tlbOf (record { valid = true; vpn = 0; ppn = f; flags = 0x16 })) 1))
+    machineWith p (withVm (userState 0 (tlbOf noEntry)) (withTlb (userVm 0 (tlbOf noEntry)) (tlbOf (record { valid = true; vpn = 0; ppn = f; flags = 0x16 })) 1))
 
 -- the witness's memory with a word written, and the table with the leaf that its user writes
 abbrev pub written : ℕ → Memory
@@ -92,19 +93,19 @@ pub record Computed : Type 0 where
   pub root-page : fits 0 1 2 ((0, 0) ∷ rootLeaf) ≡ true
   pub own-leaf : fits 0 1 1 ((2048, 0) ∷ ownLeaf) ≡ true
   -- and their accesses
-  pub unaligned : Both (load 2 0xFFF) (machineOf 4 (userState 1 (tlbOf (readable 3)))) (fourPages 1023) (answer (Value 0x000) 8 2) (answer (Value 0x100) 8 2)
-  pub privileged : Both (load 4 0) (machineOf 1 supervisor) onePage (answer (Value 0) 8 0) (answer (Value 1) 8 0)
-  pub untabled : Both (load 4 0) (machineOf 1 untranslated) onePage (answer (Value 0) 8 0) (answer (Value 1) 8 0)
-  pub slotless : Both (load 4 0) (machineOf 4 (userState 1 [])) (fourPages 0) (answer (Value 0) 8 2) (answer (Value 1) 8 2)
-  pub open-page : Both (load 4 0) (machineOf 1 (userState 1 (tlbOf (readable 0)))) onePage (answer (Value 0) 8 0) (answer (Value 1) 8 0)
-  pub hidden-table : Both (load 4 0x1000) (machineOf 1 (userState 0 (tlbOf noEntry))) rootPage (answer (Exception (PageFault Read false 0x1000)) 0 1) (answer (Value 1) 8 2)
-  pub table-stored : (x : ℕ) → resultOf (store 4 4 0x2013) (machineOf 3 (userState 0 (tlbOf noEntry))) (writableTable x) ≡ left (walked 3 1) (openedTable x) (answer (Value 0) 0 2)
+  pub unaligned : Both (load 2 0xFFF) (machineWith 4 (userState 1 (tlbOf (readable 3)))) (fourPages 1023) (answer (Value 0x000) 8 2) (answer (Value 0x100) 8 2)
+  pub privileged : Both (load 4 0) (machineWith 1 supervisor) onePage (answer (Value 0) 8 0) (answer (Value 1) 8 0)
+  pub untabled : Both (load 4 0) (machineWith 1 untranslated) onePage (answer (Value 0) 8 0) (answer (Value 1) 8 0)
+  pub slotless : Both (load 4 0) (machineWith 4 (userState 1 [])) (fourPages 0) (answer (Value 0) 8 2) (answer (Value 1) 8 2)
+  pub open-page : Both (load 4 0) (machineWith 1 (userState 1 (tlbOf (readable 0)))) onePage (answer (Value 0) 8 0) (answer (Value 1) 8 0)
+  pub hidden-table : Both (load 4 0x1000) (machineWith 1 (userState 0 (tlbOf noEntry))) rootPage (answer (Exception (PageFault Read false 0x1000)) 0 1) (answer (Value 1) 8 2)
+  pub table-stored : (x : ℕ) → resultOf (store 4 4 0x2013) (machineWith 3 (userState 0 (tlbOf noEntry))) (writableTable x) ≡ left (walked 3 1) (openedTable x) (answer (Value 0) 0 2)
   pub leaf-used : Both (load 4 0x1000) (walked 3 1) openedTable (answer (Value 0) 8 2) (answer (Value 1) 8 2)
 
 ruleset reads = (laid-good, laid-read)
 
 pub computed : Computed
-unfolding answerTo accessOf permitted dataOutcome dataMemory linesOf presentedEach checkAccess checkLegal fetchSize dataSize legalSize translatingOf allowsOf allAllowed someGrants grantsOf checkEach pagesOf pagesAfter checkPage checkWith firstMatch matches bySlot walkOf walkTable tableOk walkLeaf leafOk leafEntry bitSet byWalk filled judged permits afterPage physicalOf frameOf presented loaded stored lineDropped cacheableAt accessed newMachine noTags readOutcome writeOutcome loadAt storeAt memoryAt allInside spots stepped gathered contentIn byteIn bytesOf fits
+unfolding answerTo accessOf permitted dataOutcome dataMemory linesOf presentedEach accessGate checkAccess checkLegal fetchSize dataSize legalSize translatingOf allowsOf allAllowed someGrants grantsOf checkEach pagesOf pagesAfter checkPage checkWith firstMatch matches bySlot walkOf walkTable tableOk walkLeaf leafOk leafEntry bitSet byWalk filled judged permits afterPage physicalOf frameOf presented loaded stored lineDropped cacheableAt accessed newMachine noTags readOutcome writeOutcome loadAt storeAt memoryAt allWritable spots addresses gathered contentIn byteIn bytesOf fits
 computed =
     record {
       laid-out = λ x. refl;

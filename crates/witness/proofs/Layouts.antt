@@ -18,7 +18,7 @@ use Rattle.common.specs.Cases.{absurd-eq, and-left, and-right}
 use Rattle.memory.specs.Memory.{Memory, readAt, wordSpots}
 use Rattle.memory.specs.declared.Content.the-variants.{Value}
 use Rattle.mmu.specs.Check.{pageAddr}
-use Rattle.mmu.specs.Opened.{TableByte, level1, level2, Usable, resident, leaf, frameOf, Opened, opened}
+use Rattle.mmu.specs.Opened.{TableByte, level1, level2, Usable, resident, leaf, entryFrame, Opened, opened}
 use Rattle.mmu.specs.Tlb.{noEntry}
 use Rattle.mmu.specs.Walk.{tableOk, leafOk, wordOfTable, walkOf}
 use Rattle.mmu.specs.declared.exception.Access.{Access}
@@ -102,7 +102,7 @@ module _ (p q t f : ℕ) (l : List Word) (ok : fits q t f l ≡ true) where
   table-page a (level1 e) = inl (omega arith)
   table-page a (level2 i w h r g e) = inr (e ∙ first-word i w h r g)
 
-  walk-frame : (va : ℕ) → va < 2 ^ 32 → (e : TlbEntry) → walkOf (laid p l) (q * 4096) va .walked ≡ Leaf e → frameOf e ≡ f
+  walk-frame : (va : ℕ) → va < 2 ^ 32 → (e : TlbEntry) → walkOf (laid p l) (q * 4096) va .walked ≡ Leaf e → entryFrame e ≡ f
   walk-frame va small e h =
       let k = walk-found (laid p l) (q * 4096) va e h in
       let page = first-word (va / 4194304) (k .table) (omega arith) (k .first) (k .follows) in
@@ -112,14 +112,14 @@ module _ (p q t f : ℕ) (l : List Word) (ok : fits q t f l ≡ true) where
 
 -- every valid entry of the TLB has frame f
 abbrev pub Resident : ℕ → List TlbEntry → Type 0
-Resident f s = (i : ℕ) → getD s i noEntry .valid ≡ true → frameOf (getD s i noEntry) ≡ f
+Resident f s = (i : ℕ) → getD s i noEntry .valid ≡ true → entryFrame (getD s i noEntry) ≡ f
 
 empty-slot : (n i : ℕ) → getD (replicate n noEntry) i noEntry ≡ noEntry
 empty-slot zero i = refl
 empty-slot (suc n) zero = refl
 empty-slot (suc n) (suc i) = empty-slot n i
 
-pub one-resident : (f : ℕ) (e : TlbEntry) → (e .valid ≡ true → frameOf e ≡ f) → Resident f (tlbOf e)
+pub one-resident : (f : ℕ) (e : TlbEntry) → (e .valid ≡ true → entryFrame e ≡ f) → Resident f (tlbOf e)
 one-resident f e h zero = h
 one-resident f e h (suc i) = rw (empty-slot 15 i) (λ v. absurd-eq (cc))
 
@@ -133,7 +133,7 @@ pub record Layout (m : Memory) (vm : Vm) (q t f : ℕ) : Type 0 where
 pub layout : (p q t f : ℕ) (l : List Word) (vm : Vm) → fits q t f l ≡ true → vm .ptbr ≡ q * 4096 → Resident f (vm .tlb) → Layout (laid p l) vm q t f
 layout p q t f l vm ok root held = record { tables = λ a b. table-page p q t f l ok a (rw root at b); opens = open-page }
   where
-    usable-frame : (e : TlbEntry) → Usable (laid p l) vm e → frameOf e ≡ f
+    usable-frame : (e : TlbEntry) → Usable (laid p l) vm e → entryFrame e ≡ f
     usable-frame e (resident i h g v) = rw (← g) (held i (rw g v))
     usable-frame e (leaf va h w) = walk-frame p q t f l ok va h e (rw root at w)
 

@@ -27,7 +27,7 @@ use Rattle.machine.specs.declared.state.Machine.{Machine}
 use Rattle.isolation.specs.Premises.{Op, AllAligned, Sixteen, Alike}
 use Rattle.isolation.specs.Demand3.{Answer, ranOps, Isolated, TablesShut}
 use Rattle.witness.specs.Laid.{Word, laid}
-use Rattle.witness.specs.Scene.{onPage, tlbOf, userState, machineOf, load, store, answer}
+use Rattle.witness.specs.Scene.{onPage, tlbOf, userState, machineWith, load, store, answer}
 
 pub data Premise : Type 0 where
   alignment : Premise
@@ -109,33 +109,33 @@ pub record Needed : Type 0 where
       → Isolated hidden m m′ (ranOps os M m) (ranOps os M m′)
   -- a load over two pages: the fill of the second takes the slot of the first, whose byte is then looked for in page 0
   pub unaligned :
-      Counterexample alignment (onPage 0) (load 2 0xFFF ∷ []) (machineOf 4 (userState 1 (tlbOf (readable 3)))) (fourPages 1023 0) (fourPages 1023 1)
+      Counterexample alignment (onPage 0) (load 2 0xFFF ∷ []) (machineWith 4 (userState 1 (tlbOf (readable 3)))) (fourPages 1023 0) (fourPages 1023 1)
       (answer (Value 0x000) 8 2 ∷ []) (answer (Value 0x100) 8 2 ∷ [])
   -- a supervisor reads what it likes
   pub privileged :
-      Counterexample userMode (onPage 0) (load 4 0 ∷ []) (machineOf 1 supervisor) (onePage 0) (onePage 1)
+      Counterexample userMode (onPage 0) (load 4 0 ∷ []) (machineWith 1 supervisor) (onePage 0) (onePage 1)
       (answer (Value 0) 8 0 ∷ []) (answer (Value 1) 8 0 ∷ [])
   -- without translation a user reads what the regions grant, whatever the tables say
   pub untabled :
-      Counterexample translation (onPage 0) (load 4 0 ∷ []) (machineOf 1 untranslated) (onePage 0) (onePage 1)
+      Counterexample translation (onPage 0) (load 4 0 ∷ []) (machineWith 1 untranslated) (onePage 0) (onePage 1)
       (answer (Value 0) 8 0 ∷ []) (answer (Value 1) 8 0 ∷ [])
   -- a TLB without slots keeps no fill, so that every byte is looked for in page 0
   pub slotless :
-      Counterexample slots (onPage 0) (load 4 0 ∷ []) (machineOf 4 (userState 1 [])) (fourPages 0 0) (fourPages 0 1)
+      Counterexample slots (onPage 0) (load 4 0 ∷ []) (machineWith 4 (userState 1 [])) (fourPages 0 0) (fourPages 0 1)
       (answer (Value 0) 8 2 ∷ []) (answer (Value 1) 8 2 ∷ [])
   -- a byte that differs and is not hidden may be read: here page 2 alone is hidden
   pub unlike :
-      Counterexample likeness (onPage 2) (load 4 0 ∷ []) (machineOf 1 (userState 1 (tlbOf (readable 0)))) (onePage 0) (onePage 1)
+      Counterexample likeness (onPage 2) (load 4 0 ∷ []) (machineWith 1 (userState 1 (tlbOf (readable 0)))) (onePage 0) (onePage 1)
       (answer (Value 0) 8 0 ∷ []) (answer (Value 1) 8 0 ∷ [])
   -- a hidden table: where its word 0 names no table there is a page fault, where it names one a value
   pub hidden-table :
-      Counterexample unhiddenTables (onPage 0) (load 4 0x1000 ∷ []) (machineOf 1 (userState 0 (tlbOf noEntry))) (rootPage 0) (rootPage 1)
+      Counterexample unhiddenTables (onPage 0) (load 4 0x1000 ∷ []) (machineWith 1 (userState 0 (tlbOf noEntry))) (rootPage 0) (rootPage 1)
       (answer (Exception (PageFault Read false 0x1000)) 0 1 ∷ []) (answer (Value 1) 8 2 ∷ [])
   -- a hidden byte in an open page is read; PTBR's page is outside the map
   pub hidden-open :
-      Counterexample unhiddenPages (onPage 0) (load 4 0 ∷ []) (machineOf 1 (userState 1 (tlbOf (readable 0)))) (onePage 0) (onePage 1)
+      Counterexample unhiddenPages (onPage 0) (load 4 0 ∷ []) (machineWith 1 (userState 1 (tlbOf (readable 0)))) (onePage 0) (onePage 1)
       (answer (Value 0) 8 0 ∷ []) (answer (Value 1) 8 0 ∷ [])
   -- a user who can write the level-2 table puts a leaf of the hidden page into it, and reads that page
   pub writable-table :
-      Counterexample shutTables (onPage 2) (store 4 4 0x2013 ∷ load 4 0x1000 ∷ []) (machineOf 3 (userState 0 (tlbOf noEntry))) (writableTable 0) (writableTable 1)
+      Counterexample shutTables (onPage 2) (store 4 4 0x2013 ∷ load 4 0x1000 ∷ []) (machineWith 3 (userState 0 (tlbOf noEntry))) (writableTable 0) (writableTable 1)
       (answer (Value 0) 0 2 ∷ answer (Value 0) 8 2 ∷ []) (answer (Value 0) 0 2 ∷ answer (Value 1) 8 2 ∷ [])

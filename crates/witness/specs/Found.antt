@@ -13,7 +13,7 @@ use Rattle.memory.specs.Memory.{Memory, readAt, wordSpots}
 use Rattle.memory.specs.declared.Content.{Content}
 use Rattle.memory.specs.declared.Content.the-variants.{Value, Outside}
 use Rattle.mmu.specs.Check.{pageAddr}
-use Rattle.mmu.specs.Opened.{frameOf}
+use Rattle.mmu.specs.Opened.{entryFrame}
 use Rattle.mmu.specs.Walk.{tableOk, leafOk, spot1, spot2, leafEntry, walkLeaf, walkTable, walkOf}
 use Rattle.mmu.specs.declared.tlb.TlbEntry.{TlbEntry}
 use Rattle.mmu.specs.declared.walk.Walked.the-variants.{Leaf}
@@ -58,6 +58,6 @@ pub zero-leaf : leafOk 0 ≡ false
 unfolding leafOk bitSet
 zero-leaf = refl
 
-pub leaf-frame : (va w : ℕ) → frameOf (leafEntry va w) ≡ pageAddr (w / 4096) / 4096
+pub leaf-frame : (va w : ℕ) → entryFrame (leafEntry va w) ≡ pageAddr (w / 4096) / 4096
 unfolding leafEntry
 leaf-frame va w = refl

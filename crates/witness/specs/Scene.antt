@@ -3,7 +3,7 @@
 --   onPage h          == every byte of physical page h is hidden
 --   tlbOf e           == sixteen slots, all empty but the first, which has e
 --   userVm, userState == user mode and translation on, PTBR at page q, the TLB l, and slot 0 the next victim
---   machineOf p s     == a new machine over p pages, with a miss penalty of 8 and the privilege state s
+--   machineWith p s     == a new machine over p pages, with a miss penalty of 8 and the privilege state s
 --   load, store       == an access of a run
 --   answer o n r      == its answer: outcome, stall, walk reads
 use Prim.Native.Nat.{ℕ, _*_, _/_}
@@ -35,8 +35,8 @@ userVm q l = record { enabled = true; ptbr = q * 4096; vfault = 0; tlb = l; «ne
 abbrev pub userState : ℕ → List TlbEntry → SystemState
 userState q l = withVm (withUser newState true) (userVm q l)
 
-abbrev pub machineOf : ℕ → SystemState → Machine
-machineOf p s = withSys (newMachine 0 (p * 4096) 8) s
+abbrev pub machineWith : ℕ → SystemState → Machine
+machineWith p s = withSys (newMachine 0 (p * 4096) 8) s
 
 abbrev pub load : ℕ → ℕ → Op
 load n a = record { kind = Read; addr = a; size = n; value = 0 }

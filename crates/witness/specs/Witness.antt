@@ -16,7 +16,7 @@ use Rattle.machine.specs.declared.state.Machine.{Machine}
 use Rattle.isolation.specs.Premises.{Op, AllAligned, InUserMode, Sixteen, Alike, Sealed}
 use Rattle.isolation.specs.Demand3.{ranOps, Isolated}
 use Rattle.witness.specs.Laid.{Word, laid}
-use Rattle.witness.specs.Scene.{onPage, tlbOf, userState, machineOf, load, store, answer}
+use Rattle.witness.specs.Scene.{onPage, tlbOf, userState, machineWith, load, store, answer}
 
 -- level-1 word 0 names page 1; level-2 word 0 is page 2 with V, R, W and U; the user's first word
 abbrev pub visible : List Word
@@ -26,7 +26,7 @@ abbrev pub memory : ℕ → Memory
 memory x = laid 4 ((3072, x) ∷ visible)
 
 abbrev pub machine : Machine
-machine = machineOf 4 (userState 0 (tlbOf noEntry))
+machine = machineWith 4 (userState 0 (tlbOf noEntry))
 
 abbrev pub hidden : ℕ → Bool
 hidden = onPage 3

@@ -10,7 +10,7 @@ use Rattle.mmu.specs.Vm.Laws.{flushed-is}
 use Rattle.mmu.specs.Walk.{tableOk, leafOk}
 use Rattle.mmu.specs.declared.vm.Vm.{Vm}
 use Rattle.privilege.specs.Access.{allowsOf}
-use Rattle.privilege.specs.Addresses.{stepped}
+use Rattle.privilege.specs.Addresses.{addresses}
 use Rattle.privilege.specs.Region.{grantsOf, someGrants, allAllowed, fieldOf, withField}
 use Rattle.privilege.specs.Registers.{regionField, srRead, srWritten, vmPtbr}
 use Rattle.privilege.specs.State.{noRegions, statusOf}
@@ -21,7 +21,7 @@ use Rattle.cases.proofs.cases.Statement.{statement}
 use Rattle.cases.proofs.cases.Tie as tie
 
 table : Cases
-unfolding bitSet refusalNumber lowestFrom dropLines swept externalWritten causeOf tableOk leafOk allowsOf stepped grantsOf someGrants allAllowed fieldOf withField regionField srRead srWritten noRegions statusOf returned
+unfolding bitSet refusalNumber lowestFrom dropLines swept externalWritten causeOf tableOk leafOk allowsOf addresses grantsOf someGrants allAllowed fieldOf withField regionField srRead srWritten noRegions statusOf returned
 table =
     record {
       p1 = refl;

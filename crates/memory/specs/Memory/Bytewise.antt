@@ -4,7 +4,7 @@
 --   read-whole, read-none, read-value, read-outside   == a read, byte by byte
 --   byte-small            == a byte of a list of bytes is below 256
 --   put-none, put-next    == a write, byte by byte
---   inside-none, inside-next == that every address is inside, one by one
+--   writable-none, writable-next == that every address is writable, one by one
 --   put-four, read-four   == a word's four bytes, written and read
 use Prim.Native.Nat.{ℕ, _+_, _-_, _*_, _<_}
 use mathlib.Core.Path.{_≡_, refl}
@@ -13,7 +13,7 @@ use mathlib.Core.List.{List, [], _∷_, map}
 use lib.ListN.{getD}
 use Rattle.common.specs.Bytes.{bigEndian}
 use Rattle.common.specs.Cases.{cond-case, absurd-eq}
-use Rattle.memory.specs.Memory.{Memory, inside, byteAt, gathered, readAt, wordSpots, putByte, putAt, allInside}
+use Rattle.memory.specs.Memory.{Memory, readable, writable, byteAt, gathered, readAt, wordSpots, putByte, putAt, allWritable}
 use Rattle.memory.specs.declared.Content.{Content}
 use Rattle.memory.specs.declared.Content.the-variants.{Value, Outside}
 
@@ -40,7 +40,7 @@ module _ (m : Memory) (high : ℕ) where
 pub byte-small : (m : Memory) (a b : ℕ) → ((i : ℕ) → getD (m .bytes) i 0 < 256) → byteAt m a ≡ Value b → b < 256
 unfolding byteAt
 byte-small m a b h =
-    cond-case (λ (x : Content). x ≡ Value b → b < 256) (inside m a)
+    cond-case (λ (x : Content). x ≡ Value b → b < 256) (readable m a)
     (λ t e. let q : getD (m .bytes) (a - m .base) 0 ≡ b = cc in rw q at (h (a - m .base)))
     (λ t e. absurd-eq (cc))
 
@@ -52,13 +52,13 @@ pub put-next : (m : Memory) (a b : ℕ) (l bs : List ℕ) → putAt m (a ∷ l) 
 unfolding putAt
 put-next m a b l bs = refl
 
-pub inside-none : (m : Memory) → allInside m [] ≡ true
-unfolding allInside
-inside-none m = refl
+pub writable-none : (m : Memory) → allWritable m [] ≡ true
+unfolding allWritable
+writable-none m = refl
 
-pub inside-next : (m : Memory) (a : ℕ) (l : List ℕ) → allInside m (a ∷ l) ≡ (inside m a && allInside m l)
-unfolding allInside
-inside-next m a l = refl
+pub writable-next : (m : Memory) (a : ℕ) (l : List ℕ) → allWritable m (a ∷ l) ≡ (writable m a && allWritable m l)
+unfolding allWritable
+writable-next m a l = refl
 
 -- ---- a word
 

@@ -24,7 +24,7 @@ use Rattle.common.specs.Cases.{absurd-eq, bool-is, cond-holds, and-left, and-ri
 use Rattle.common.specs.Lists.{Each}
 use Rattle.memory.specs.declared.Content.{Content}
 use Rattle.memory.specs.declared.Content.the-variants.{Value, Outside}
-use Rattle.memory.specs.Memory.{Memory, lent, goodMap, inside, byteAt, readAt, putByte, putAt, allInside}
+use Rattle.memory.specs.Memory.{Memory, lent, goodMap, inside, readable, writable, byteAt, readAt, putByte, putAt, allWritable}
 
 pub good-map-is : (base n : ℕ) → goodMap base n ≡ (eqb (base % 4096) 0 && eqb (n % 4096) 0 && leb (base + n) 0xFFFF_0000)
 unfolding goodMap
@@ -57,10 +57,10 @@ pub inside-same : (m m′ : Memory) → SameMap m m′ → (a : ℕ) → inside 
 unfolding inside
 inside-same m m′ s a = rw (s .base, s .size)
 
-pub all-inside-same : (m m′ : Memory) → SameMap m m′ → (l : List ℕ) → allInside m l ≡ allInside m′ l
-unfolding allInside
-all-inside-same m m′ s [] = refl
-all-inside-same m m′ s (a ∷ l) = rw (inside-same m m′ s a, all-inside-same m m′ s l)
+pub all-writable-same : (m m′ : Memory) → SameMap m m′ → (l : List ℕ) → allWritable m l ≡ allWritable m′ l
+unfolding allWritable
+all-writable-same m m′ s [] = refl
+all-writable-same m m′ s (a ∷ l) = rw (inside-same m m′ s a, all-writable-same m m′ s l)
 
 -- ---- reading
 
@@ -73,11 +73,11 @@ unfolding readAt
 read-same m m′ l h = rw (map-same m m′ l h)
 
 -- a byte of the map, and an address outside it
-pub byte-inside : (m : Memory) (a : ℕ) → inside m a ≡ true → byteAt m a ≡ Value (getD (m .bytes) (a - m .base) 0)
+pub byte-inside : (m : Memory) (a : ℕ) → readable m a ≡ true → byteAt m a ≡ Value (getD (m .bytes) (a - m .base) 0)
 unfolding byteAt
 byte-inside m a h = rw h
 
-pub byte-outside : (m : Memory) (a : ℕ) → inside m a ≡ false → byteAt m a ≡ Outside
+pub byte-outside : (m : Memory) (a : ℕ) → readable m a ≡ false → byteAt m a ≡ Outside
 unfolding byteAt
 byte-outside m a h = rw h
 
@@ -110,11 +110,11 @@ abbrev pub over : ℕ → Content → Content
 over v Outside = Outside
 over v (Value x) = Value v
 
-pub put-in : (m : Memory) (a v : ℕ) → inside m a ≡ true → putByte m a v ≡ lent (m .base) (set (m .bytes) (a - m .base) v)
+pub put-in : (m : Memory) (a v : ℕ) → writable m a ≡ true → putByte m a v ≡ lent (m .base) (set (m .bytes) (a - m .base) v)
 unfolding putByte
 put-in m a v h = rw h
 
-pub put-out : (m : Memory) (a v : ℕ) → inside m a ≡ false → putByte m a v ≡ m
+pub put-out : (m : Memory) (a v : ℕ) → writable m a ≡ false → putByte m a v ≡ m
 unfolding putByte
 put-out m a v h = rw h
 

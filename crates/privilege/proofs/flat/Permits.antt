@@ -8,8 +8,11 @@ use lib.Dec.{eqb}
 use lib.ListN.{length, getD}
 use borrow.Author.Tests.{eq-eqb, ne-eqb, lt-ltb, le-ltb}
 use Rattle.common.specs.Cases.{absurd-eq}
-use Rattle.common.specs.declared.Refusal.the-variants.{Size, Map}
+use Rattle.common.specs.declared.Refusal.{Refusal}
+use Rattle.common.specs.declared.Refusal.the-variants.{Map}
 use Rattle.layout.specs.Words.{part, put, Over, Reads, part-length, over-none, over-all}
+use Rattle.memory.specs.Gate.{Refused as Shut, opens, accessGate}
+use Rattle.memory.specs.Gate.Laws.{access-open, is-open, is-shut}
 use Rattle.memory.specs.Memory.{Memory}
 use Rattle.mmu.specs.Check.{pageAddr, checkEach, lastPage, pagesOf}
 use Rattle.mmu.specs.Check.Pages.{pages-keep}
@@ -23,9 +26,9 @@ use Rattle.mmu.specs.declared.exception.Exception.{Exception}
 use Rattle.mmu.specs.declared.exception.Exception.the-variants.{ProtectionFault}
 use Rattle.mmu.specs.declared.flat.Pages.{Pages}
 use Rattle.mmu.specs.declared.vm.Vm.{Vm}
-use Rattle.privilege.specs.Access.{fetchSize, dataSize, legalSize, mapGood, translatingOf, permissionOf, accessAnswered, fromPages, checkLegal, checkAccess}
+use Rattle.privilege.specs.Access.{fetchSize, dataSize, legalSize, translatingOf, permissionOf, accessAnswered, fromPages, checkLegal, checkAccess}
 use Rattle.privilege.specs.Access.Laws as laws
-use Rattle.privilege.specs.Addresses.{stepped}
+use Rattle.privilege.specs.Addresses.{addresses}
 use Rattle.privilege.specs.Flat.{regionsFrom, vmFrom, systemWords, regionsAt, sysAt}
 use Rattle.privilege.specs.Flat.Access.{permitAt, permitOf, barePermit, regionsPermit, pagesPermit, refusedAs, Translated, Answers, Permits}
 use Rattle.privilege.specs.Flat.Laws.{sys-vm, reg-vm}
@@ -68,7 +71,7 @@ module _ (a n : ℕ) where
   pub bare-apart : (pb : ℕ) → roomOf a < n → pb ≡ nextPage a → permit Allowed a pb 0 ≡ barePermit a n
   bare-apart pb h e = apart (λ (x : ℕ). x) a n 0 a pb h refl e
 
-  module _ (rs : List Region) (k : Access) (ok : Bool) (e : ok ≡ allAllowed rs k (stepped n a)) where
+  module _ (rs : List Region) (k : Access) (ok : Bool) (e : ok ≡ allAllowed rs k (addresses n a)) where
     pub regions-grant : (r : Permit) → r ≡ barePermit a n → ok ≡ true → r ≡ regionsPermit rs a n k
     regions-grant r is t = is ∙ rw (← e, t)
 
@@ -154,7 +157,7 @@ module _ (m : Memory) (l : List ℕ) (a n : ℕ) (k : Access) (r : Permit) where
     user : S .user ≡ true
     user = user-at l true (eq-eqb (getD l 2 0 % 2) 1 h)
 
-    by-grant : (ok : Bool) → ok ≡ allAllowed (S .regions) k (stepped n a) → translatingOf S ≡ false
+    by-grant : (ok : Bool) → ok ≡ allAllowed (S .regions) k (addresses n a) → translatingOf S ≡ false
         → r ≡ cond ok (barePermit a n) (permit (Denied (ProtectionFault k)) 0 0 0) → Answers (checkLegal m S a n k) l a n r l
     by-grant true e t is =
         answers Allowed (laws.by-regions m S a n k t ∙ rw (sym (by-regions S a n k true user e))) (is ∙ sym (unmoved t))
@@ -163,7 +166,7 @@ module _ (m : Memory) (l : List ℕ) (a n : ℕ) (k : Access) (r : Permit) where
 
     pub legal-regions : (getD l vmFrom 0 % 2 ≡ 1 → ⊥) → r ≡ regionsPermit (regionsAt (part regionsFrom 24 l)) a n k → Answers (checkLegal m S a n k) l a n r l
     legal-regions g is =
-        by-grant (allAllowed (regionsAt (part regionsFrom 24 l)) k (stepped n a)) (ap (λ (rs : List Region). allAllowed rs k (stepped n a)) (sym (regions-are l)))
+        by-grant (allAllowed (regionsAt (part regionsFrom 24 l)) k (addresses n a)) (ap (λ (rs : List Region). allAllowed rs k (addresses n a)) (sym (regions-are l)))
         (not-enabled l h g) is
 
     pub legal-translated : (new : List ℕ) → length l ≡ systemWords → getD l vmFrom 0 % 2 ≡ 1 → length new ≡ length (part vmFrom 69 l)
@@ -199,8 +202,8 @@ few-bytes Read n h = data-small n true (sym h) refl
 few-bytes Write n h = data-small n true (sym h) refl
 few-bytes Fetch n h = data-small n true (rw (h, or-true (eqb n 1))) refl
 
-pub legal-small : (n : ℕ) (k : Access) (legal : Bool) → legal ≡ legalSize k n → legal ≡ true → (0 < n) × (n ≤ 4)
-legal-small n k legal is h = (some-bytes k n (sym is ∙ h), few-bytes k n (sym is ∙ h))
+pub legal-small : (m : Memory) (n : ℕ) (k : Access) (legal ok : Bool) → legal ≡ legalSize k n → ok ≡ opens (accessGate m legal) → ok ≡ true → (0 < n) × (n ≤ 4)
+legal-small m n k legal ok is e h = let t = sym is ∙ access-open m legal (is-open m legal (sym e ∙ h)) .1 in (some-bytes k n t, few-bytes k n t)
 
 module _ (m : Memory) (l : List ℕ) (a n : ℕ) (k : Access) (r : Permit) where
   pub no-state : (length l ≡ systemWords → ⊥) → r ≡ refusedAs Map → Permits m l a n k r l
@@ -212,16 +215,13 @@ module _ (m : Memory) (l : List ℕ) (a n : ℕ) (k : Access) (r : Permit) where
       over-all systemWords l r (refusedAs Map) l′ (Answers (checkAccess m (sysAt l) a n k) l a n r l′) long same
       (answers-as (checkAccess m (sysAt l) a n k) c l a n r l′ e w)
 
-  module _ (long : length l ≡ systemWords) (good : Bool) (is : good ≡ mapGood m) where
-    pub permit-bad-map : good ≡ false → r ≡ refusedAs Map → Permits m l a n k r l
-    permit-bad-map h e =
-        permits-as (accessAnswered (sysAt l) (Refused Map)) l long refl (laws.check-bad-map m (sysAt l) a n k (sym is ∙ h)) (e, refl, refl)
+  module _ (long : length l ≡ systemWords) (legal : Bool) (size : legal ≡ legalSize k n) (ok : Bool) (is : ok ≡ opens (accessGate m legal)) where
+    pub permit-refused : (f : Refusal) → ok ≡ false → Shut f ≡ accessGate m false → r ≡ refusedAs f → Permits m l a n k r l
+    permit-refused f h q e =
+        permits-as (accessAnswered (sysAt l) (Refused f)) l long refl
+        (laws.check-refused m (sysAt l) a n k f (ap (accessGate m) (sym size) ∙ is-shut m legal f (sym is ∙ h) q)) (e, refl, refl)
 
-    module _ (h : good ≡ true) (legal : Bool) (size : legal ≡ legalSize k n) where
-      pub permit-bad-size : legal ≡ false → r ≡ refusedAs Size → Permits m l a n k r l
-      permit-bad-size g e =
-          permits-as (accessAnswered (sysAt l) (Refused Size)) l long refl (laws.check-bad-size m (sysAt l) a n k (sym is ∙ h) (sym size ∙ g)) (e, refl, refl)
-
-      pub permit-good : (l′ : List ℕ) → legal ≡ true → length l′ ≡ length l → Answers (checkLegal m (sysAt l) a n k) l a n r l′ → Permits m l a n k r l′
-      permit-good l′ g same w =
-          permits-as (checkLegal m (sysAt l) a n k) l′ long same (laws.check-good m (sysAt l) a n k (sym is ∙ h) (sym size ∙ g)) w
+    pub permit-good : (l′ : List ℕ) → ok ≡ true → length l′ ≡ length l → Answers (checkLegal m (sysAt l) a n k) l a n r l′ → Permits m l a n k r l′
+    permit-good l′ h same w =
+        permits-as (checkLegal m (sysAt l) a n k) l′ long same
+        (laws.check-good m (sysAt l) a n k (ap (accessGate m) (sym size) ∙ is-open m legal (sym is ∙ h))) w

@@ -1,31 +1,30 @@
 -- The laws of the access check that others use. Assumes nothing.
 --
 --   Kept s s′          == nothing but the TLB and next_victim differs, and there are as many slots
---   check-bad-map, check-bad-size, check-good == the refusals, "2, then 1", with nothing changed; else the check of a legal access
+--   check-refused, check-good == a refusal of the gate, with nothing changed; else the check of a legal access
 --   legal-answers      == a legal access is allowed or denied, never refused
 --   by-supervisor, by-regions, by-pages       == the check in each mode
 --   check-keeps        == what any check leaves, a refused or denied one included
 --   check-user         == the mode stays
 --   refused-nothing    == a refusal has changed nothing and read nothing
 --   legal-few, allowed-size == a legal size, and so an allowed access's, is between 1 and 4
---   good-same          == of memory, whether the map is good depends on the map alone
 use Prim.Native.Nat.{ℕ, _≤_, _<_}
 use mathlib.Core.Path.{_≡_, refl, ap}
 use mathlib.Core.Bool.{Bool, true, false, _||_}
 use native.Mathlib.Omega.{arith}
 use lib.Dec.{eqb}
 use borrow.Author.Tests.{eqb-true}
-use Rattle.common.specs.Cases.{absurd-eq, cond-holds, cond-case}
+use Rattle.common.specs.Cases.{absurd-eq, cond-holds}
 use Rattle.common.specs.declared.Refusal.{Refusal}
-use Rattle.common.specs.declared.Refusal.the-variants.{Size, Map}
+use Rattle.memory.specs.Gate.{Open, Refused as Shut, accessGate}
+use Rattle.memory.specs.Gate.Laws.{gated-holds, gated-case, access-open}
 use Rattle.memory.specs.Memory.{Memory}
-use Rattle.memory.specs.Memory.Laws.{SameMap}
 use Rattle.mmu.specs.Check.{checkEach, pagesOf}
 use Rattle.mmu.specs.declared.check.Verdict.{Verdict}
 use Rattle.mmu.specs.declared.check.Verdict.the-variants as verdict
 use Rattle.mmu.specs.declared.exception.Access.{Access}
 use Rattle.mmu.specs.declared.exception.Access.the-variants.{Read, Write, Fetch}
-use Rattle.privilege.specs.Access.{fetchSize, dataSize, legalSize, mapGood, translatingOf, allowsOf, permissionOf, accessAnswered, fromPages, byRegions, checkLegal, checkAccess}
+use Rattle.privilege.specs.Access.{fetchSize, dataSize, legalSize, translatingOf, allowsOf, permissionOf, accessAnswered, fromPages, byRegions, checkLegal, checkAccess}
 use Rattle.mmu.specs.Check.Pages.{VmKept, kept-same, pages-keep}
 use Rattle.privilege.specs.State.{withVm}
 use Rattle.privilege.specs.declared.check.Permission.{Permission}
@@ -58,17 +57,13 @@ legal-few Fetch n h = fetch-few n (eqb n 2) (eqb n 4) refl refl h
 module _ (m : Memory) (s : SystemState) (a n : ℕ) (k : Access) where
   -- ---- the refusals
 
-  pub check-bad-map : mapGood m ≡ false → checkAccess m s a n k ≡ accessAnswered s (Refused Map)
+  pub check-refused : (r : Refusal) → accessGate m (legalSize k n) ≡ Shut r → checkAccess m s a n k ≡ accessAnswered s (Refused r)
   unfolding checkAccess
-  check-bad-map h = rw h
+  check-refused r h = rw h
 
-  pub check-bad-size : mapGood m ≡ true → legalSize k n ≡ false → checkAccess m s a n k ≡ accessAnswered s (Refused Size)
+  pub check-good : accessGate m (legalSize k n) ≡ Open → checkAccess m s a n k ≡ checkLegal m s a n k
   unfolding checkAccess
-  check-bad-size h g = rw (h, g)
-
-  pub check-good : mapGood m ≡ true → legalSize k n ≡ true → checkAccess m s a n k ≡ checkLegal m s a n k
-  unfolding checkAccess
-  check-good h g = rw (h, g)
+  check-good h = rw h
 
   -- ---- the check in each mode
 
@@ -106,10 +101,7 @@ module _ (m : Memory) (s : SystemState) (a n : ℕ) (k : Access) where
 
   pub check-keeps : Kept s (checkAccess m s a n k .sys)
   unfolding checkAccess
-  check-keeps =
-      cond-holds (λ (c : AccessChecked). Kept s (c .sys)) (mapGood m)
-      (cond-holds (λ (c : AccessChecked). Kept s (c .sys)) (legalSize k n) legal-keeps (kept-all s))
-      (kept-all s)
+  check-keeps = gated-holds (λ (c : AccessChecked). Kept s (c .sys)) (accessGate m (legalSize k n)) legal-keeps (λ r. kept-all s)
 
   pub check-user : checkAccess m s a n k .sys .user ≡ s .user
   check-user = ap (λ (t : SystemState). t .user) (check-keeps .else)
@@ -117,18 +109,11 @@ module _ (m : Memory) (s : SystemState) (a n : ℕ) (k : Access) where
   pub refused-nothing : (r : Refusal) → checkAccess m s a n k .permission ≡ Refused r → checkAccess m s a n k ≡ accessAnswered s (Refused r)
   unfolding checkAccess
   refused-nothing r =
-      cond-holds (λ (c : AccessChecked). c .permission ≡ Refused r → c ≡ accessAnswered s (Refused r)) (mapGood m)
-      (cond-holds (λ (c : AccessChecked). c .permission ≡ Refused r → c ≡ accessAnswered s (Refused r)) (legalSize k n)
-      (λ e. absurd (legal-answers r e)) (λ e. ap (accessAnswered s) e))
-      (λ e. ap (accessAnswered s) e)
+      gated-holds (λ (c : AccessChecked). c .permission ≡ Refused r → c ≡ accessAnswered s (Refused r)) (accessGate m (legalSize k n))
+      (λ e. absurd (legal-answers r e)) (λ q e. ap (accessAnswered s) e)
 
   pub allowed-size : checkAccess m s a n k .permission ≡ Allowed → (0 < n) × (n ≤ 4)
   unfolding checkAccess
   allowed-size =
-      cond-case (λ (c : AccessChecked). c .permission ≡ Allowed → (0 < n) × (n ≤ 4)) (mapGood m)
-      (λ good. cond-case (λ (c : AccessChecked). c .permission ≡ Allowed → (0 < n) × (n ≤ 4)) (legalSize k n)
-      (λ legal e. legal-few k n legal) (λ bad e. absurd-eq (cc)))
-      (λ bad e. absurd-eq (cc))
-
-pub good-same : (m m′ : Memory) → SameMap m m′ → mapGood m ≡ mapGood m′
-good-same m m′ e = rw (e .base, e .size)
+      gated-case (λ (c : AccessChecked). c .permission ≡ Allowed → (0 < n) × (n ≤ 4)) (accessGate m (legalSize k n))
+      (λ g e. legal-few k n (access-open m (legalSize k n) g .1)) (λ r g e. absurd-eq (cc))

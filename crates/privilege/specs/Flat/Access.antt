@@ -27,7 +27,7 @@ use Rattle.mmu.specs.declared.check.Checked.{Checked}
 use Rattle.mmu.specs.declared.exception.Access.{Access}
 use Rattle.mmu.specs.declared.exception.Exception.the-variants.{ProtectionFault}
 use Rattle.privilege.specs.Access.{permissionOf, checkAccess}
-use Rattle.privilege.specs.Addresses.{stepped}
+use Rattle.privilege.specs.Addresses.{addresses}
 use Rattle.privilege.specs.Flat.{systemWords, sysAt, regAt}
 use Rattle.privilege.specs.Region.{allAllowed}
 use Rattle.privilege.specs.Rows.{roomOf, nextPage}
@@ -62,7 +62,7 @@ abbrev pub barePermit : ℕ → ℕ → Permit
 barePermit a n = permitAt Allowed (λ (x : ℕ). x) a n 0
 
 abbrev pub regionsPermit : List Region → ℕ → ℕ → Access → Permit
-regionsPermit rs a n k = cond (allAllowed rs k (stepped n a)) (barePermit a n) (record { permission = Denied (ProtectionFault k); pa = 0; pb = 0; reads = 0 })
+regionsPermit rs a n k = cond (allAllowed rs k (addresses n a)) (barePermit a n) (record { permission = Denied (ProtectionFault k); pa = 0; pb = 0; reads = 0 })
 
 abbrev pub refusedAs : Refusal → Permit
 refusedAs r = record { permission = Refused r; pa = 0; pb = 0; reads = 0 }

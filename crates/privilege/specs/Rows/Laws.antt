@@ -15,11 +15,13 @@ use native.Mathlib.Omega.{arith}
 use lib.Dec.{ltb}
 use borrow.Author.Tests.{lt-ltb, ltb-true, ltb-false}
 use Rattle.common.specs.Cases.{cond-case}
+use Rattle.memory.specs.Gate.{mapGood}
+use Rattle.memory.specs.Gate.Laws.{map-open, size-open}
 use Rattle.memory.specs.Memory.{Memory, readAt, wordSpots}
 use Rattle.memory.specs.Span.{halfSpots}
 use Rattle.memory.specs.declared.Content.the-variants as content
 use Rattle.mmu.specs.Vm.{frameOf}
-use Rattle.privilege.specs.Access.{fetchSize, dataSize, mapGood, translatingOf}
+use Rattle.privilege.specs.Access.{fetchSize, dataSize, translatingOf}
 use Rattle.privilege.specs.Rows.{roomOf, nextPage, placeOf, placesFrom, rowsOf}
 use Rattle.privilege.specs.Transfer.{joinedTo, physicalOf, spots, loadAt}
 use Rattle.privilege.specs.Transfer.Laws.{spots-none, spots-next, frame-same}
@@ -64,7 +66,7 @@ module _ (a pa pb : ℕ) where
 
 pub load-word : (m : Memory) (a pa pb v : ℕ) → mapGood m ≡ true → a % 4096 ≤ 4092 → readAt m (wordSpots pa) ≡ content.Value v → loadAt m 4 (rowsOf a 4 pa pb) ≡ read.Value v
 unfolding loadAt dataSize fetchSize
-load-word m a pa pb v good page is = rw (good, rows-word a pa pb (omega arith), is)
+load-word m a pa pb v good page is = rw (size-open m true (map-open m good) refl, rows-word a pa pb (omega arith), is)
 
 module _ (a pa pb pb′ : ℕ) where
   places-page : (i n : ℕ) → i + n ≤ roomOf a → placesFrom a pa pb i n ≡ placesFrom a pa pb′ i n

@@ -17,25 +17,26 @@ use mathlib.Core.Logic.{_≢_}
 use native.Mathlib.Omega.{arith}
 use lib.ListN.{length}
 use Rattle.common.specs.Bytes.{bytesOf}
-use Rattle.common.specs.Cases.{cond-holds}
+use Rattle.common.specs.declared.Refusal.{Refusal}
+use Rattle.memory.specs.Gate.{Gate, Open, Refused, gated, accessGate}
+use Rattle.memory.specs.Gate.Laws.{gated-holds, access-same}
 use Rattle.common.specs.Lists.{Each}
 use Rattle.memory.specs.Memory.{Memory, byteAt, wordSpots, putAt}
-use Rattle.memory.specs.Memory.Laws.{SameMap, same-map, read-same, all-inside-same, write-map, write-both, write-other}
+use Rattle.memory.specs.Memory.Laws.{SameMap, same-map, read-same, all-writable-same, write-map, write-both, write-other}
 use Rattle.mmu.specs.Vm.{frameOf}
 use Rattle.mmu.specs.declared.vm.Vm.{Vm}
-use Rattle.privilege.specs.Access.{dataSize, mapGood, translatingOf}
-use Rattle.privilege.specs.Access.Laws.{good-same}
-use Rattle.privilege.specs.Addresses.{stepped}
+use Rattle.privilege.specs.Access.{dataSize, translatingOf}
+use Rattle.privilege.specs.Addresses.{addresses}
 use Rattle.privilege.specs.Transfer.{joinedTo, physicalOf, spots, loadAt, storeAt, memoryAt}
 use Rattle.privilege.specs.declared.state.SystemState.{SystemState}
 
 module _ (s : SystemState) (va : ℕ) where
   pub spots-none : spots s va 0 ≡ []
-  unfolding spots stepped
+  unfolding spots addresses
   spots-none = refl
 
   pub spots-next : (n : ℕ) → spots s va (suc n) ≡ physicalOf s va ∷ spots s ((va + 1) % 2 ^ 32) n
-  unfolding spots stepped
+  unfolding spots addresses
   spots-next n = refl
 
 pub spots-length : (s : SystemState) (n va : ℕ) → length (spots s va n) ≡ n
@@ -82,16 +83,16 @@ word-spots s va h g =
 module _ (m m′ : Memory) (n : ℕ) (l : List ℕ) (e : SameMap m m′) where
   pub load-same : Each (λ a. byteAt m a ≡ byteAt m′ a) l → loadAt m n l ≡ loadAt m′ n l
   unfolding loadAt
-  load-same h = rw (good-same m m′ e, read-same m m′ l h)
+  load-same h = rw (access-same m m′ e (dataSize n), read-same m m′ l h)
 
   pub store-same : storeAt m n l ≡ storeAt m′ n l
   unfolding storeAt
-  store-same = rw (good-same m m′ e, all-inside-same m m′ e l)
+  store-same = rw (access-same m m′ e (dataSize n), all-writable-same m m′ e l)
 
 -- what holds of the written memory, and of the memory as it was, holds of the memory after a store
 after : (P : Memory → Type 0) (m : Memory) (n : ℕ) (l : List ℕ) (v : ℕ) → P (putAt m l (bytesOf n v)) → P m → P (memoryAt m n l v)
 unfolding memoryAt
-after P m n l v p q = cond-holds P (mapGood m) (cond-holds P (dataSize n) p q) q
+after P m n l v p q = gated-holds P (accessGate m (dataSize n)) p (λ r. q)
 
 pub store-map : (m : Memory) (n : ℕ) (l : List ℕ) (v : ℕ) → SameMap (memoryAt m n l v) m
 store-map m n l v = after (λ (x : Memory). SameMap x m) m n l v (write-map m l (bytesOf n v)) (same-map m)
@@ -101,9 +102,8 @@ store-other m n l v b h = after (λ (x : Memory). byteAt x b ≡ byteAt m b) m n
 
 pub store-both : (m m′ : Memory) (n : ℕ) (l : List ℕ) (v b : ℕ) → SameMap m m′ → byteAt m b ≡ byteAt m′ b → byteAt (memoryAt m n l v) b ≡ byteAt (memoryAt m′ n l v) b
 unfolding memoryAt
-store-both m m′ n l v b e h = rw (good-same m m′ e) (by-size (mapGood m′) (dataSize n))
+store-both m m′ n l v b e h = rw (access-same m m′ e (dataSize n)) (by-gate (accessGate m′ (dataSize n)))
   where
-    by-size : (good legal : Bool) → byteAt (cond good (cond legal (putAt m l (bytesOf n v)) m) m) b ≡ byteAt (cond good (cond legal (putAt m′ l (bytesOf n v)) m′) m′) b
-    by-size true true = write-both m m′ l (bytesOf n v) b h
-    by-size true false = h
-    by-size false legal = h
+    by-gate : (g : Gate) → byteAt (gated g (putAt m l (bytesOf n v)) (λ (r : Refusal). m)) b ≡ byteAt (gated g (putAt m′ l (bytesOf n v)) (λ (r : Refusal). m′)) b
+    by-gate Open = write-both m m′ l (bytesOf n v) b h
+    by-gate (Refused r) = h

@@ -18,7 +18,8 @@ use crate::flat::regions::all_allowed;
 use crate::state::PAGE_SIZE;
 use crate::transfer::join;
 use common::Refusal;
-use memory::good_map;
+use memory::gate::is_open;
+use memory::gate::refusal;
 use mmu::check::Verdict;
 use mmu::exception::Access;
 use mmu::exception::Exception;
@@ -50,13 +51,10 @@ pub fn check_access(
     if sys.len() != SYSTEM_WORDS {
         return refused(Refusal::Map);
     }
-    if good_map(mem, base) {
-        if legal_size(len, access) {
-            return check_legal(sys, mem, base, addr, len, access);
-        }
-        return refused(Refusal::Size);
+    if is_open(mem, base, legal_size(len, access)) {
+        return check_legal(sys, mem, base, addr, len, access);
     }
-    refused(Refusal::Map)
+    refused(refusal(mem, base))
 }
 
 fn refused(refusal: Refusal) -> Permit

@@ -2,7 +2,7 @@
 ghost use mathlib.Core.Path.{_≡_};
 ghost use Prim.Native.Nat.{_<_};
 ghost use lib.ListN.{length, getD, set};
-ghost use Rattle.privilege.specs.Addresses.{stepped};
+ghost use Rattle.privilege.specs.Addresses.{addresses};
 ghost use Rattle.privilege.specs.Flat.{regionsAt};
 ghost use Rattle.privilege.specs.Region.{someGrants, byteAllowed, allAllowed, fieldWritten};
 ghost use Rattle.privilege.specs.State.{noRegion};
@@ -108,7 +108,7 @@ fn byte_allowed(regions: &[u32], addr: u32, access: Access) -> bool
 // Every byte of an access.
 pub(crate) fn all_allowed(regions: &[u32], addr: u32, len: u32, access: Access) -> bool
     requires { ⌜ length (now regions) ≡ 24 ⌝ }
-    ensures { λ r. ⌜ r ≡ allAllowed (regionsAt (now (regions .entry))) access (stepped len addr) ⌝ }
+    ensures { λ r. ⌜ r ≡ allAllowed (regionsAt (now (regions .entry))) access (addresses len addr) ⌝ }
 {
     let mut byte = addr;
     let mut left = len;

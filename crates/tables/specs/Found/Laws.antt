@@ -32,7 +32,7 @@ use Rattle.mmu.specs.declared.walk.Walked.the-variants.{Leaf, Missing}
 use Rattle.mmu.specs.declared.walk.WalkAnswer.{WalkAnswer}
 use Rattle.mmu.specs.Check.{pageAddr}
 use Rattle.mmu.specs.Exception.{accessBit}
-use Rattle.mmu.specs.Opened.{TableByte, level1, level2, resident, leaf, frameOf, Opened, opened}
+use Rattle.mmu.specs.Opened.{TableByte, level1, level2, resident, leaf, entryFrame, Opened, opened}
 use Rattle.mmu.specs.declared.exception.Access.{Access}
 use Rattle.mmu.specs.declared.vm.Vm.{Vm}
 use Rattle.mmu.specs.Walk.Laws.{table-followed, none-followed, walk-two, walk-one, leaf-found, no-leaf, entry-of}
@@ -330,7 +330,7 @@ module _ (c : Call) (acc : Accepted c) where
           let bits = sym (permits-bits (entryOf y) k g) ∙ (rw q at t) in
           let frame : pageAddr (y .ppn) / 4096 ≡ y .ppn = omega arith in
           opens y l (and-left (bitSet (y .bits) 4) (bitSet (y .bits) (accessBit k)) bits) (and-right (bitSet (y .bits) 4) (bitSet (y .bits) (accessBit k)) bits)
-          (f ∙ ap frameOf q ∙ frame)
+          (f ∙ ap entryFrame q ∙ frame)
 
   pub opened-list : (vm : Vm) → vm .ptbr ≡ (c .first) → (k : Access) (a : ℕ) → Opens (listOf c) k a → Opened (made c) vm k a
   opened-list vm e k a (opens x l u b f) =

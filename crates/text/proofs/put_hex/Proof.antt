@@ -1,6 +1,6 @@
 -- `text::put_hex` meets its contract. The loop's invariant: all digits written are the k that are left written from here.
 -- Assumes nothing.
-use mathlib.Core.Path.{_≡_, refl}
+use mathlib.Core.Path.{_≡_}
 use borrow.Author.Needs.{needs}
 use lib.ListN.{length}
 use Rattle.text.specs.Text.{written, hexOf}

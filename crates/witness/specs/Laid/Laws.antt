@@ -20,8 +20,10 @@ use lib.ListN.{length, getD, replicate, length-replicate, getD-replicate}
 use borrow.Author.Tests.{eq-eqb, ne-eqb, eqb-true, lt-ltb, ltb-true, le-leb, leb-true}
 use Rattle.common.specs.Bytes.{bigEndian, bytesOf}
 use Rattle.common.specs.Cases.{absurd-eq, bool-is, cond-case}
-use Rattle.memory.specs.Memory.{Memory, lent, goodMap, inside, byteAt, gathered, readAt, putByte, putAt, wordSpots}
-use Rattle.memory.specs.Memory.Laws.{SameMap, byte-inside, byte-outside, put-here, put-other, write-map, write-other, over}
+use Rattle.memory.specs.Gate.{Open, mapGate}
+use Rattle.memory.specs.Gate.Laws.{map-open}
+use Rattle.memory.specs.Memory.{Memory, lent, inside, byteAt, gathered, readAt, putByte, putAt, wordSpots}
+use Rattle.memory.specs.Memory.Laws.{SameMap, good-map-is, byte-inside, byte-outside, put-here, put-other, write-map, write-other, over}
 use Rattle.memory.specs.declared.Content.{Content}
 use Rattle.memory.specs.declared.Content.the-variants.{Value, Outside}
 use Rattle.witness.specs.Laid.{Word, laid}
@@ -65,11 +67,11 @@ laid-inside p l a =
     let none : a - 0 ≡ a = omega arith in
     rw (laid-base p l, laid-size p l, le-leb 0 a (omega arith), none)
 
-pub laid-good : (p : ℕ) (l : List Word) → leb p 0xFFFF0 ≡ true → goodMap (laid p l .base) (length (laid p l .bytes)) ≡ true
-unfolding goodMap
+pub laid-good : (p : ℕ) (l : List Word) → leb p 0xFFFF0 ≡ true → mapGate (laid p l) ≡ Open
 laid-good p l h =
     let low = leb-true p 0xFFFF0 h in
-    rw (laid-base p l, laid-size p l, eq-eqb (p * 4096 % 4096) 0 (omega arith)) (le-leb (0 + p * 4096) 0xFFFF_0000 (omega arith))
+    map-open (laid p l)
+    (good-map-is (laid p l .base) _ ∙ rw (laid-base p l, laid-size p l, eq-eqb (p * 4096 % 4096) 0 (omega arith)) (le-leb (0 + p * 4096) 0xFFFF_0000 (omega arith)))
 
 -- ---- a byte
 

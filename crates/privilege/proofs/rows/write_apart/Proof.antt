@@ -7,7 +7,7 @@ use native.Mathlib.Omega.{arith}
 use borrow.Author.Needs.{needs}
 use lib.ListN.{length}
 use Rattle.common.specs.Bytes.{bytesOf}
-use Rattle.memory.specs.Memory.{lent, putAt, allInside}
+use Rattle.memory.specs.Memory.{lent, putAt, allWritable}
 use Rattle.privilege.specs.Rows.{placesFrom, rowsOf}
 use Rattle.privilege.proofs.Places.{put-start, inside-start, put-on, inside-on, put-all, inside-all, good-still, length-still}
 use Rattle.privilege.proofs.rows.write_apart.Statement.{statement}
@@ -16,7 +16,7 @@ use Rattle.privilege.proofs.rows.write_apart.Tie as tie
 abbrev Inv-loop : tie.InvT-loop
 Inv-loop mem₀ base addr size pa pb value all₀ i₀ mem all i =
     (putAt (lent base mem₀) (rowsOf addr size pa pb) (bytesOf size value) ≡ putAt (lent base mem) (placesFrom addr pa pb i (size - i)) (bytesOf (size - i) value))
-    × (allInside (lent base mem₀) (rowsOf addr size pa pb) ≡ (all && allInside (lent base mem) (placesFrom addr pa pb i (size - i))))
+    × (allWritable (lent base mem₀) (rowsOf addr size pa pb) ≡ (all && allWritable (lent base mem) (placesFrom addr pa pb i (size - i))))
     × (length mem ≡ length mem₀)
     × (i ≤ size)
 

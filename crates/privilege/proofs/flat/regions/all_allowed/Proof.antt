@@ -3,7 +3,7 @@
 use mathlib.Core.Path.{_≡_, refl}
 use native.Mathlib.Omega.{arith}
 use borrow.Author.Needs.{needs}
-use Rattle.privilege.specs.Addresses.{stepped}
+use Rattle.privilege.specs.Addresses.{addresses}
 use Rattle.privilege.specs.Region.{allAllowed}
 use Rattle.privilege.specs.Flat.{regionsAt}
 use Rattle.privilege.proofs.Regions.{no-byte-left, byte-allowed, byte-denied}
@@ -12,7 +12,7 @@ use Rattle.privilege.proofs.flat.regions.all_allowed.Tie as tie
 
 abbrev Inv-loop : tie.InvT-loop
 Inv-loop words addr len access byte₀ left₀ byte left =
-    allAllowed (regionsAt words) access (stepped len addr) ≡ allAllowed (regionsAt words) access (stepped left byte)
+    allAllowed (regionsAt words) access (addresses len addr) ≡ allAllowed (regionsAt words) access (addresses left byte)
 
 abbrev μ-loop : tie.MeasureT-loop
 μ-loop words addr len access byte₀ left₀ byte left = left

@@ -1,63 +1,24 @@
--- `privilege::state::SystemState::debug_translate` meets its contract: refused, resident, or walked. Assumes nothing.
+-- `privilege::state::SystemState::debug_translate` meets its contract: let in and looked up, or refused. Assumes nothing.
 use borrow.Author.Needs.{needs}
-use mathlib.Core.Path.{_≡_, sym, _∙_}
-use native.Mathlib.Omega.{arith}
-use lib.ListN.{length}
-use Rattle.common.specs.Lists.{mapped-length}
-use Rattle.mmu.specs.Tlb.Laws.{found-bound}
-use Rattle.privilege.proofs.Views.{view-refused, view-resident, view-walked}
+use Rattle.privilege.proofs.Views.{view-shown, view-refused}
 use Rattle.privilege.proofs.state.SystemState.debug_translate.Statement.{statement}
 use Rattle.privilege.proofs.state.SystemState.debug_translate.Tie as tie
 
-good-map-requires : tie.Need-good-map-requires
-good-map-requires c κs = search needs
+is-open-requires : tie.Need-is-open-requires
+is-open-requires c κs = search needs
 
-lookup-requires : tie.Need-lookup-requires
-lookup-requires c κs = search needs
-
-enum-known-slot : tie.Need-enum-known-slot
-enum-known-slot c = search needs
-
-mul-entry : tie.Need-mul-entry
-mul-entry c =
-    let n : length (c .before .before .before .before .before .before .before .before .args .self .vm .tlb) ≡ 16 = search (needs, mapped-length) in
-    omega (arith, found-bound _ _ _ (sym (c .before .before .before .lookup .ensures) ∙ c .before .slot .given .1))
-
-element-copy-out-entry : tie.Need-element-copy-out-entry
-element-copy-out-entry c =
-    let n : length (c .before .before .before .before .before .before .before .before .args .self .vm .tlb) ≡ 16 = search (needs, mapped-length) in
-    omega (arith, found-bound _ _ _ (sym (c .before .before .before .lookup .ensures) ∙ c .before .slot .given .1))
-
-mapped-requires : tie.Need-mapped-requires
-mapped-requires c κs = search needs
+debug-lookup-requires : tie.Need-debug-lookup-requires
+debug-lookup-requires c κs = search needs
 
 returns : tie.Need-returns
-returns c = search view-resident
+returns c = search view-shown
 
-enum-told : tie.Need-enum-told
-enum-told c = search needs
-
-debug-walk-requires : tie.Need-debug-walk-requires
-debug-walk-requires c κs = search needs
+refusal-requires : tie.Need-refusal-requires
+refusal-requires c κs = search needs
 
 returns-2 : tie.Need-returns-2
-returns-2 c = search view-walked
-
-returns-3 : tie.Need-returns-3
-returns-3 c = search view-refused
+returns-2 c = search view-refused
 
 pub debug-translate-spec : {M : Type 1} → statement M
 debug-translate-spec =
-    tie.close
-    (tie.spec
-    good-map-requires
-    lookup-requires
-    enum-known-slot
-    mul-entry
-    element-copy-out-entry
-    mapped-requires
-    returns
-    enum-told
-    debug-walk-requires
-    returns-2
-    returns-3)
+    tie.close (tie.spec is-open-requires debug-lookup-requires returns refusal-requires returns-2)

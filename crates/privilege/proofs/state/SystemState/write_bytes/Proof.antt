@@ -7,7 +7,7 @@ use native.Mathlib.Omega.{arith}
 use borrow.Author.Needs.{needs}
 use lib.ListN.{length}
 use Rattle.common.specs.Bytes.{bytesOf}
-use Rattle.memory.specs.Memory.{lent, putAt, allInside}
+use Rattle.memory.specs.Memory.{lent, putAt, allWritable}
 use Rattle.memory.specs.Memory.Laws.{put-length}
 use Rattle.privilege.specs.Transfer.{spots}
 use Rattle.privilege.proofs.Transfers.{put-on, inside-on, put-all, inside-all}
@@ -17,7 +17,7 @@ use Rattle.privilege.proofs.state.SystemState.write_bytes.Tie as tie
 abbrev Inv-loop : tie.InvT-loop
 Inv-loop self mem₀ base va size value all₀ at₀ left₀ mem all at left =
     (putAt (lent base mem₀) (spots self va size) (bytesOf size value) ≡ putAt (lent base mem) (spots self at left) (bytesOf left value))
-    × (allInside (lent base mem₀) (spots self va size) ≡ (all && allInside (lent base mem) (spots self at left)))
+    × (allWritable (lent base mem₀) (spots self va size) ≡ (all && allWritable (lent base mem) (spots self at left)))
     × (length mem ≡ length mem₀)
     × (left ≤ 4)
 
