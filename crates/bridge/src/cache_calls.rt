@@ -1,9 +1,10 @@
 // The L1 tag cache, under C names.
 ghost use mathlib.Core.Path.{_≡_};
-ghost use Rattle.cache.specs.Cache.{newCache, resetOf, fetched, loaded, stored, externalWritten, regRead, regWritten, byteRead, byteWritten};
+ghost use Rattle.cache.specs.Cache.{newCache, resetOf, fetched, loaded, stored, externalWritten, linesVisited, regRead, regWritten, byteRead, byteWritten};
 ghost use Rattle.bridge.specs.Cache.{withPenalty};
 use cache::CacheAccess;
 use cache::L1Cache;
+use cache::lines_visited;
 
 #[no_mangle]
 pub extern "C" fn cache_new(ram_start: u32, ram_size: u32) -> L1Cache
@@ -53,6 +54,13 @@ pub extern "C" fn cache_external_write(c: L1Cache, pa: u32, len: u32) -> L1Cache
     ensures { λ r. ⌜ r ≡ externalWritten c pa len ⌝ }
 {
     c.external_write(pa, len)
+}
+
+#[no_mangle]
+pub extern "C" fn cache_lines_visited(pa: u32, len: u32) -> u32
+    ensures { λ r. ⌜ r ≡ linesVisited pa len ⌝ }
+{
+    lines_visited(pa, len)
 }
 
 #[no_mangle]

@@ -12,14 +12,14 @@ use lib.Seq.{getD-set-same, getD-set-other}
 use lib.Arith.{digits-div, digits-mod}
 use lib.Pow.{pow-pos, shr-shr, field, mod-mod-pow}
 use Rattle.common.specs.Cases.{bool-is, cond-holds, cond-case}
-use Rattle.cache.specs.Bank.{lineOf, lineStop, indexOf, tagOf, noTag, noTags, withTags, holds, accessed, lineDropped, enabledTo, swept}
-use Rattle.cache.specs.Cache.{Side, iBank, dBank, bankOf, withBanks, saturated, cacheableAt, counts, stallAfter, loaded, fetched, stored, externalWritten, laneShift, laneOf, withByte, merged}
+use Rattle.cache.specs.Bank.{lineOf, lineStop, indexOf, tagOf, noTag, noTags, withTags, holds, accessed, lineDropped, dropLines, enabledTo, swept}
+use Rattle.cache.specs.Cache.{Side, iBank, dBank, bankOf, withBanks, saturated, cacheableAt, counts, stallAfter, loaded, fetched, stored, externalWritten, linesVisited, laneShift, laneOf, withByte, merged}
 use Rattle.cache.specs.Meaning.{Lines, tagAt, Meaning}
 use Rattle.cache.specs.declared.Bank.{Bank}
 use Rattle.cache.specs.declared.BankAccess.{BankAccess}
 use Rattle.cache.specs.declared.L1Cache.{L1Cache}
 use Rattle.cache.proofs.Banks.{enable-kept}
-use Rattle.cache.proofs.Sweeps.{set-is, line-dropped, others-kept}
+use Rattle.cache.proofs.Sweeps.{set-is, line-dropped, others-kept, visited-enough}
 
 -- ---- an access
 
@@ -114,6 +114,21 @@ external-else : (c : L1Cache) (pa len : ℕ)
 unfolding externalWritten swept
 external-else c pa len = refl
 
+visits-at-most : (pa len : ℕ) → linesVisited pa len ≤ 256
+visits-at-most pa len = omega arith
+
+visits-each : (pa len k : ℕ) → pa / 32 ≤ k → k < pa / 32 + 256 → k * 32 < saturated pa len → k < pa / 32 + linesVisited pa len
+visits-each pa len k h m g = omega arith
+
+visits-only : (pa len k : ℕ) → pa / 32 ≤ k → k < pa / 32 + linesVisited pa len → k * 32 < saturated pa len
+visits-only pa len k h g = omega arith
+
+visits-enough : (s : Side) (c : L1Cache) (pa len : ℕ) → Lines (bankOf s c)
+    → dropLines (linesVisited pa len) (pa / 32) (bankOf s c .tags) ≡ bankOf s (externalWritten c pa len) .tags
+unfolding externalWritten swept
+visits-enough iBank c pa len l = visited-enough (c .i .tags) (lineOf pa) (lineStop (saturated pa len)) l
+visits-enough dBank c pa len l = visited-enough (c .d .tags) (lineOf pa) (lineStop (saturated pa len)) l
+
 -- ---- the enable bit
 
 enable-change : (b : Bank) (on : Bool) → (b .enabled ≡ on → ⊥) → enabledTo b on .tags ≡ noTags
@@ -196,6 +211,10 @@ meaning-holds =
       external-drops = external-drops;
       external-keeps = external-keeps;
       external-else = external-else;
+      visits-at-most = visits-at-most;
+      visits-each = visits-each;
+      visits-only = visits-only;
+      visits-enough = visits-enough;
       enable-change = enable-change;
       enable-same = enable-same;
       lane-written = lane-written;

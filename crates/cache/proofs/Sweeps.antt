@@ -1,75 +1,17 @@
--- The sweep of an external write. Its loop goes by address, the definition by line number. Assumes nothing.
+-- The sweep of an external write. Its loop counts the lines that it visits, at most 256; the definition drops all. Assumes nothing.
 use Prim.Native.Nat.{ℕ, zero, suc, _+_, _-_, _*_, _/_, _%_, _^_, _≤_, _<_}
 use mathlib.Core.Path.{_≡_, refl, sym, ap, _∙_}
 use mathlib.Core.Bool.{true, false, cond}
 use mathlib.Core.List.{List}
 use mathlib.Core.Logic.{⊎-elim}
 use native.Mathlib.Omega.{arith}
-use borrow.Author.Tests.{eqb-true, eqb-false}
-use lib.Dec.{eqb}
-use lib.Bits.{bitAnd, and-high}
-use lib.ListN.{length, getD, set, length-set}
-use lib.Seq.{getD-set-same, getD-set-other}
+use borrow.Author.Tests.{eqb-true, eqb-false, leb-true, leb-false}
+use lib.Dec.{eqb, leb}
+use lib.ListN.{length, getD, set, replicate, length-set, getD-replicate}
+use lib.Seq.{ext-getD, getD-set-same, getD-set-other}
 use Rattle.common.specs.Cases.{bool-is, cond-holds}
-use Rattle.cache.specs.Bank.{lineOf, lineStop, indexOf, noTag, withTags, dropLines, sweptTags, swept}
+use Rattle.cache.specs.Bank.{lineOf, lineStop, indexOf, noTag, noTags, withTags, dropLines, visited, sweptTags, swept}
 use Rattle.cache.specs.declared.Bank.{Bank}
-
--- one line less, and none left
-sweep-step : (ts : List ℕ) (k stop : ℕ) → k < stop → sweptTags (set ts (k % 256) noTag) (k + 1) stop ≡ sweptTags ts k stop
-unfolding dropLines
-sweep-step ts k stop h =
-    let e : stop - k ≡ suc (stop - (k + 1)) = omega arith in
-    rw e
-
-sweep-done : (ts : List ℕ) (k stop : ℕ) → stop ≤ k → sweptTags ts k stop ≡ ts
-unfolding dropLines
-sweep-done ts k stop h =
-    let e : stop - k ≡ 0 = omega arith in
-    rw e
-
--- the line that holds an address starts at `pa & !31`
-line-start : (pa : ℕ) → pa < 2 ^ 32 → bitAnd pa 4294967264 ≡ lineOf pa * 32
-line-start pa h = and-high pa 27 5 ∙ (let e : pa / 32 % 2 ^ 27 * 32 ≡ pa / 32 * 32 = omega arith in e)
-
--- the loop at an address: a line starts there, and the rest of the sweep leaves what the whole does
-pub record At (ts : List ℕ) (line end : ℕ) (whole : List ℕ) : Type 0 where
-  pub start : line % 32 ≡ 0
-  pub word : line < 2 ^ 32
-  pub rest : sweptTags ts (lineOf line) (lineStop end) ≡ whole
-
--- it starts at the line that holds the first address
-pub sweep-starts : (ts : List ℕ) (pa end : ℕ) → pa < 2 ^ 32 → At ts (bitAnd pa 4294967264) end (sweptTags ts (lineOf pa) (lineStop end))
-sweep-starts ts pa end h =
-    rw (line-start pa h)
-    (let e : lineOf (lineOf pa * 32) ≡ lineOf pa = omega arith in
-    record { start = omega arith; word = omega arith; rest = rw e })
-
-module _ (ts whole : List ℕ) (line end i next : ℕ) (at : At ts line end whole) (h : line < end) (ei : i ≡ indexOf line)
-    (en : next ≡ (line + 32) % 2 ^ 32) where
-  one-line : sweptTags (set ts i noTag) (lineOf line + 1) (lineStop end) ≡ whole
-  one-line =
-      let q : lineOf line < lineStop end = omega arith in
-      rw ei (sweep-step ts (lineOf line) (lineStop end) q ∙ at .rest)
-
-  -- it goes on at the next line
-  pub sweep-on : (next ≡ 0 → ⊥) → At (set ts i noTag) next end whole
-  sweep-on n =
-      let e : lineOf next ≡ lineOf line + 1 = omega arith in
-      record { start = omega arith; word = omega arith; rest = rw e one-line }
-
-  -- or is left after the topmost one, as the next address is 0 then
-  pub sweep-top : next ≡ 0 → end < 2 ^ 32 → set ts i noTag ≡ whole
-  sweep-top z hend =
-      let q : lineStop end ≤ lineOf line + 1 = omega arith in
-      sym (sweep-done (set ts i noTag) (lineOf line + 1) (lineStop end) q) ∙ one-line
-
--- or where no line is left
-pub sweep-over : (ts whole : List ℕ) (line end : ℕ) → At ts line end whole → end ≤ line → ts ≡ whole
-sweep-over ts whole line end at h =
-    let q : lineStop end ≤ lineOf line = omega arith in
-    sym (sweep-done ts (lineOf line) (lineStop end) q) ∙ at .rest
-
-pub ruleset sweeps = (sweep-starts, sweep-on, sweep-top, sweep-over)
 
 -- a bank whose tags are swept
 pub bank-swept : (b : Bank) (ts : List ℕ) (k stop : ℕ) → ts ≡ sweptTags (b .tags) k stop → withTags b ts ≡ swept b k stop
@@ -112,3 +54,69 @@ others-kept zero k ts j free = refl
 others-kept (suc n) k ts j free =
     others-kept n (k + 1) (set ts (k % 256) noTag) j (λ m h e. free (suc m) (omega arith) (omega arith))
     ∙ getD-set-other ts (k % 256) j noTag 0 (λ (q : j ≡ k % 256). free 0 (omega arith) (omega arith))
+
+-- ---- 256 lines are enough
+
+drop-length : (n k : ℕ) (ts : List ℕ) → length (dropLines n k ts) ≡ length ts
+unfolding dropLines
+drop-length zero k ts = refl
+drop-length (suc n) k ts = drop-length n (k + 1) (set ts (k % 256) noTag) ∙ length-set ts (k % 256) noTag
+
+-- so many consecutive lines have every index among them
+all-dropped : (n k : ℕ) (ts : List ℕ) → length ts ≡ 256 → 256 ≤ n → dropLines n k ts ≡ noTags
+unfolding noTags
+all-dropped n k ts l h =
+    ext-getD 0 (dropLines n k ts) (replicate 256 noTag) (drop-length n k ts ∙ l)
+    (λ (j : ℕ) (p : j < length (dropLines n k ts)).
+    let q : j < 256 = omega (arith, drop-length n k ts) in
+    line-dropped n k ts j ((j + 256 - k % 256) % 256) l (omega arith) (omega arith) ∙ sym (getD-replicate 256 j noTag 0 q))
+
+-- and the rest of the sweep changes nothing
+pub visited-enough : (ts : List ℕ) (k stop : ℕ) → length ts ≡ 256 → dropLines (visited k stop) k ts ≡ sweptTags ts k stop
+visited-enough ts k stop l = ⊎-elim more fewer (bool-is (leb 256 (stop - k)))
+  where
+    more : leb 256 (stop - k) ≡ true → dropLines (visited k stop) k ts ≡ sweptTags ts k stop
+    more t =
+        let h : 256 ≤ stop - k = leb-true _ _ t in
+        all-dropped (visited k stop) k ts l (omega arith) ∙ sym (all-dropped (stop - k) k ts l h)
+
+    fewer : leb 256 (stop - k) ≡ false → dropLines (visited k stop) k ts ≡ sweptTags ts k stop
+    fewer t =
+        let h : stop - k < 256 = leb-false _ _ t in
+        let e : visited k stop ≡ stop - k = omega arith in
+        rw e
+
+-- ---- the loop
+
+-- after n of its turns: the rest of them leave what the whole sweep does
+abbrev pub At : List ℕ → ℕ → ℕ → ℕ → List ℕ → Type 0
+At ts pa turns n whole = dropLines (turns - n) (lineOf pa + n) ts ≡ whole
+
+pub sweep-starts : (ts : List ℕ) (pa end turns : ℕ) → length ts ≡ 256 → turns ≡ visited (lineOf pa) (lineStop end)
+    → At ts pa turns 0 (sweptTags ts (lineOf pa) (lineStop end))
+sweep-starts ts pa end turns l e =
+    let n : turns - 0 ≡ visited (lineOf pa) (lineStop end) = omega arith in
+    let k : lineOf pa + 0 ≡ lineOf pa = omega arith in
+    rw (n, k) (visited-enough ts (lineOf pa) (lineStop end) l)
+
+-- one line less, and none left
+one-dropped : (ts : List ℕ) (n m k : ℕ) → n ≡ suc m → dropLines n k ts ≡ dropLines m (k + 1) (set ts (k % 256) noTag)
+unfolding dropLines
+one-dropped ts n m k e = rw e
+
+none-left : (ts : List ℕ) (n k : ℕ) → n ≡ 0 → dropLines n k ts ≡ ts
+unfolding dropLines
+none-left ts n k e = rw e
+
+-- one turn less
+pub sweep-on : (ts whole : List ℕ) (pa turns n first : ℕ) → At ts pa turns n whole → n < turns → first ≡ indexOf pa
+    → At (set ts ((first + n) % 256) noTag) pa turns (n + 1) whole
+sweep-on ts whole pa turns n first at h e =
+    let i : (first + n) % 256 ≡ (lineOf pa + n) % 256 = omega arith in
+    let k : lineOf pa + (n + 1) ≡ lineOf pa + n + 1 = omega arith in
+    rw (i, k) (sym (one-dropped ts (turns - n) (turns - (n + 1)) (lineOf pa + n) (omega arith)) ∙ at)
+
+pub sweep-over : (ts whole : List ℕ) (pa turns n : ℕ) → At ts pa turns n whole → turns ≤ n → ts ≡ whole
+sweep-over ts whole pa turns n at h = sym (none-left ts (turns - n) (lineOf pa + n) (omega arith)) ∙ at
+
+pub ruleset sweeps = (sweep-starts, sweep-on, sweep-over)

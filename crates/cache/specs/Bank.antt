@@ -12,12 +12,13 @@
 --   statsCleared b            == no counts: `clear_stats`
 --   controlled b on drop clr  == the enable bit, then the two strobes: a bank's part of `write_reg`
 --   swept b k stop, sweptTags == the indexes of lines k to stop - 1 are dropped: a bank's part of `external_write`
+--   visited k stop            == how many of those lines a sweep visits (W-204)
 --   withTags, hitCounted, missCounted, allocated, dropLines == the single changes that these are made of
 --
 -- Choices that a reader may question. The two banks have the same size, so the Rust's `size_shift` is left out. A sweep
 -- is over line numbers, address / 32, and not addresses: a line starts below `end` exactly if its number is below
 -- `lineStop end`, and so the sweep past the topmost line, which the Rust ends by a test of its own, needs no case.
-use Prim.Native.Nat.{ℕ, zero, suc, _+_, _-_, _/_, _%_, _^_}
+use Prim.Native.Nat.{ℕ, zero, suc, _+_, _-_, _/_, _%_, _^_, min}
 use mathlib.Core.Bool.{Bool, true, false, cond, Bool·beq}
 use mathlib.Core.List.{List}
 use lib.ListN.{getD, set, replicate}
@@ -100,3 +101,7 @@ sweptTags ts k stop = dropLines (stop - k) k ts
 
 unfoldable pub swept : Bank → ℕ → ℕ → Bank
 swept b k stop = withTags b (sweptTags (b .tags) k stop)
+
+-- W-204: "Once 256 lines have been dropped every index is empty, so the work can stop there"
+abbrev pub visited : ℕ → ℕ → ℕ
+visited k stop = min (stop - k) 256

@@ -12,6 +12,7 @@
 --   fetched c pa, loaded c pa   == the instruction bank's access, the data bank's: `fetch`, `load`
 --   stored c pa                 == the matching instruction line goes: `store`
 --   externalWritten c pa len    == another master wrote [pa, pa + len): `external_write`
+--   linesVisited pa len         == how many lines of each bank that visits (W-204)
 --   enableBits, ctrlWord c      == the two enable bits: `ctrl`
 --   registerAt, regRead, regWritten == a register: `read_reg`, `write_reg`
 --   wordOf, laneShift addr      == the register of a byte, and how far up the byte stands in it: `lane`
@@ -24,7 +25,7 @@ use Prim.Native.Nat.{ℕ, _+_, _-_, _*_, _/_, _%_, _^_, min}
 use mathlib.Core.Bool.{Bool, cond, _&&_}
 use lib.Dec.{eqb, ltb, leb}
 use Rattle.common.specs.Bits.{bitSet}
-use Rattle.cache.specs.Bank.{newBank, accessed, lineDropped, statsCleared, controlled, lineOf, lineStop, swept}
+use Rattle.cache.specs.Bank.{newBank, accessed, lineDropped, statsCleared, controlled, lineOf, lineStop, visited, swept}
 use Rattle.cache.specs.declared.Bank.{Bank}
 use Rattle.cache.specs.declared.L1Cache.{L1Cache}
 use Rattle.cache.specs.declared.CacheAccess.{CacheAccess}
@@ -97,6 +98,9 @@ unfoldable pub externalWritten : L1Cache → ℕ → ℕ → L1Cache
 externalWritten c pa len =
     let stop = lineStop (saturated pa len) in
     withBanks c (swept (c .i) (lineOf pa) stop) (swept (c .d) (lineOf pa) stop)
+
+abbrev pub linesVisited : ℕ → ℕ → ℕ
+linesVisited pa len = visited (lineOf pa) (lineStop (saturated pa len))
 
 -- ---- the registers
 

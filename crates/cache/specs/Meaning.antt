@@ -5,13 +5,13 @@
 --   Meaning      == the laws, one field a sentence
 --
 -- What holds of both banks is said of a bank b, or of either side s. A load or fetch is the same law of its bank.
-use Prim.Native.Nat.{ℕ, _*_, _/_, _%_, _^_, _<_, _≤_}
+use Prim.Native.Nat.{ℕ, _+_, _*_, _/_, _%_, _^_, _<_, _≤_}
 use mathlib.Core.Path.{_≡_}
 use mathlib.Core.Bool.{Bool, true, false, cond, _&&_}
 use lib.Dec.{eqb}
 use lib.ListN.{length, getD}
-use Rattle.cache.specs.Bank.{indexOf, noTag, noTags, withTags, holds, accessed, enabledTo}
-use Rattle.cache.specs.Cache.{Side, bankOf, withBanks, saturated, cacheableAt, counts, stallAfter, loaded, fetched, stored, externalWritten, laneOf, merged}
+use Rattle.cache.specs.Bank.{indexOf, noTag, noTags, withTags, holds, accessed, dropLines, enabledTo}
+use Rattle.cache.specs.Cache.{Side, bankOf, withBanks, saturated, cacheableAt, counts, stallAfter, loaded, fetched, stored, externalWritten, linesVisited, laneOf, merged}
 use Rattle.cache.specs.declared.Bank.{Bank}
 use Rattle.cache.specs.declared.L1Cache.{L1Cache}
 
@@ -49,6 +49,14 @@ pub record Meaning : Type 0 where
   pub external-else : (c : L1Cache) (pa len : ℕ) →
       externalWritten c pa len
       ≡ withBanks c (withTags (c .i) (externalWritten c pa len .i .tags)) (withTags (c .d) (externalWritten c pa len .d .tags))
+  -- W-204: an external write of any length visits at most 256 lines of a bank
+  pub visits-at-most : (pa len : ℕ) → linesVisited pa len ≤ 256
+  -- they are those that it drops, each of the first 256 and no others
+  pub visits-each : (pa len k : ℕ) → pa / 32 ≤ k → k < pa / 32 + 256 → k * 32 < saturated pa len → k < pa / 32 + linesVisited pa len
+  pub visits-only : (pa len k : ℕ) → pa / 32 ≤ k → k < pa / 32 + linesVisited pa len → k * 32 < saturated pa len
+  -- "Once 256 lines have been dropped every index is empty": dropping these leaves the tags that dropping all leaves
+  pub visits-enough : (s : Side) (c : L1Cache) (pa len : ℕ) → Lines (bankOf s c) →
+      dropLines (linesVisited pa len) (pa / 32) (bankOf s c .tags) ≡ bankOf s (externalWritten c pa len) .tags
   -- "Any change of an enable bit empties its bank", and where it does not change the bank stays
   pub enable-change : (b : Bank) (on : Bool) → (b .enabled ≡ on → ⊥) → enabledTo b on .tags ≡ noTags
   pub enable-same : (b : Bank) → enabledTo b (b .enabled) ≡ b

@@ -6,11 +6,12 @@
 // `write_byte`. Both banks have the same size, so a bank's `size_shift` is the constant `SIZE_SHIFT`.
 ghost use mathlib.Core.Path.{_≡_};
 ghost use Rattle.cache.specs.Bank.{lineOf, lineStop, indexOf, tagOf, newBank, accessed, lineDropped, emptied, enabledTo, statsCleared, controlled, swept};
-ghost use Rattle.cache.specs.Cache.{saturated, newCache, rangeHas, cacheableAt, resetOf, bothCleared, costOf, fetched, loaded, stored, externalWritten, enableBits, ctrlWord, registerAt, regRead, regWritten, laneShift, merged, byteRead, byteWritten};
+ghost use Rattle.cache.specs.Cache.{saturated, newCache, rangeHas, cacheableAt, resetOf, bothCleared, costOf, fetched, loaded, stored, externalWritten, linesVisited, enableBits, ctrlWord, registerAt, regRead, regWritten, laneShift, merged, byteRead, byteWritten};
 ghost use Rattle.cache.specs.Meaning.{Meaning};
 ghost use Rattle.cache.specs.History.{History};
 ghost use Rattle.cache.specs.Corners.{Corners};
 use crate::sweep::sweep;
+use crate::sweep::visits;
 
 pub mod flat;
 mod sweep;
@@ -36,8 +37,6 @@ pub const CTRL_CLR_STATS: u32 = 1 << 10;
 
 // CACHE_INFO: [3:0] log2 line bytes, [7:4] log2 ways, [15:8] log2 I bytes, [23:16] log2 D bytes.
 pub const CACHE_INFO: u32 = LINE_SHIFT | (0 << 4) | (I_SIZE_SHIFT << 8) | (D_SIZE_SHIFT << 16);
-
-const LINE_BYTES: u32 = 1 << LINE_SHIFT;
 
 const LINES: u32 = 1 << (SIZE_SHIFT - LINE_SHIFT);
 
@@ -394,6 +393,13 @@ impl L1Cache {
         let old = self.read_reg(word);
         self.write_reg(word, merge(old, addr, value))
     }
+}
+
+// How many lines of each bank an external write of `len` bytes at `pa` visits, at most 256: the turns of its loop.
+pub fn lines_visited(pa: u32, len: u32) -> u32
+    ensures { λ r. ⌜ r ≡ linesVisited pa len ⌝ }
+{
+    visits(pa, saturating_add(pa, len))
 }
 
 // How far up its word the byte at `addr` stands.

@@ -12,6 +12,7 @@ pub record Bridge : Type 0 where
   pub cache-load : Settled bridge.cache_calls.cache_load.ended bridge.cache_calls.cache_load.Reads.Learnt
   pub cache-store : Settled bridge.cache_calls.cache_store.ended bridge.cache_calls.cache_store.Reads.Learnt
   pub cache-external-write : Settled bridge.cache_calls.cache_external_write.ended bridge.cache_calls.cache_external_write.Reads.Learnt
+  pub cache-lines-visited : Settled bridge.cache_calls.cache_lines_visited.ended bridge.cache_calls.cache_lines_visited.Reads.Learnt
   pub cache-read-reg : Settled bridge.cache_calls.cache_read_reg.ended bridge.cache_calls.cache_read_reg.Reads.Learnt
   pub cache-write-reg : Settled bridge.cache_calls.cache_write_reg.ended bridge.cache_calls.cache_write_reg.Reads.Learnt
   pub cache-read-byte : Settled bridge.cache_calls.cache_read_byte.ended bridge.cache_calls.cache_read_byte.Reads.Learnt

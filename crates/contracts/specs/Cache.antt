@@ -19,6 +19,7 @@ pub record Cache : Type 0 where
   pub load : Settled cache.L1Cache.load.ended cache.L1Cache.load.Reads.Learnt
   pub store : Settled cache.L1Cache.store.ended cache.L1Cache.store.Reads.Learnt
   pub external-write : Settled cache.L1Cache.external_write.ended cache.L1Cache.external_write.Reads.Learnt
+  pub lines-visited : Settled cache.lines_visited.ended cache.lines_visited.Reads.Learnt
   pub ctrl : Settled cache.L1Cache.ctrl.ended cache.L1Cache.ctrl.Reads.Learnt
   pub read-reg : Settled cache.L1Cache.read_reg.ended cache.L1Cache.read_reg.Reads.Learnt
   pub write-reg : Settled cache.L1Cache.write_reg.ended cache.L1Cache.write_reg.Reads.Learnt

@@ -1,5 +1,5 @@
--- `cache::sweep::sweep` meets its contract. The loop's invariant: a line starts at the address, and the rest of the sweep
--- leaves what the whole does. The measure is the distance to the end. Assumes nothing.
+-- `cache::sweep::sweep` meets its contract. The loop's invariant: the rest of the turns leave what the whole sweep does. The measure
+-- is the turns left, so there are as many as `visits` answers. Assumes nothing.
 use Prim.Native.Nat.{_-_}
 use mathlib.Core.Path.{_≡_}
 use borrow.Author.Needs.{needs}
@@ -10,19 +10,32 @@ use Rattle.cache.proofs.sweep.sweep.Statement.{statement}
 use Rattle.cache.proofs.sweep.sweep.Tie as tie
 
 abbrev Inv-loop : tie.InvT-loop
-Inv-loop tags₀ pa end line₀ tags line = At tags line end (sweptTags tags₀ (lineOf pa) (lineStop end)) × (length tags ≡ 256) × (length tags ≡ length tags₀)
+Inv-loop tags₀ pa end turns first n₀ tags n =
+    At tags pa turns n (sweptTags tags₀ (lineOf pa) (lineStop end)) × (length tags ≡ 256) × (length tags ≡ length tags₀)
 
 abbrev μ-loop : tie.MeasureT-loop
-μ-loop tags₀ pa end line₀ tags line = end - line
+μ-loop tags₀ pa end turns first n₀ tags n = turns - n
 
-sub-line : tie.Need-sub-line Inv-loop μ-loop
-sub-line c = search needs
+visits-requires : tie.Need-visits-requires Inv-loop μ-loop
+visits-requires c κs = search needs
+
+cast-turns : tie.Need-cast-turns Inv-loop μ-loop
+cast-turns c = search needs
+
+index-of-requires : tie.Need-index-of-requires Inv-loop μ-loop
+index-of-requires c κs = search needs
 
 loop-holds : tie.Need-loop-holds Inv-loop μ-loop
 loop-holds c = (search (needs, sweeps), search needs, search needs)
 
-index-of-requires : tie.Need-index-of-requires Inv-loop μ-loop
-index-of-requires c κs = search needs
+add-tags : tie.Need-add-tags Inv-loop μ-loop
+add-tags c = search needs
+
+cast-tags : tie.Need-cast-tags Inv-loop μ-loop
+cast-tags c = search needs
+
+rem-tags : tie.Need-rem-tags Inv-loop μ-loop
+rem-tags c = search needs
 
 mul-tags : tie.Need-mul-tags Inv-loop μ-loop
 mul-tags c = search needs
@@ -30,8 +43,8 @@ mul-tags c = search needs
 slice-write-tags : tie.Need-slice-write-tags Inv-loop μ-loop
 slice-write-tags c = search needs
 
-wrapping-add-u32-requires : tie.Need-wrapping-add-u32-requires Inv-loop μ-loop
-wrapping-add-u32-requires c κs = search needs
+add-n : tie.Need-add-n Inv-loop μ-loop
+add-n c = search needs
 
 loop-less : tie.Need-loop-less Inv-loop μ-loop
 loop-less c = search needs
@@ -45,27 +58,23 @@ same-length c = search needs
 returns : tie.Need-returns Inv-loop μ-loop
 returns c = search (needs, sweeps)
 
-same-length-2 : tie.Need-same-length-2 Inv-loop μ-loop
-same-length-2 c = search needs
-
-returns-2 : tie.Need-returns-2 Inv-loop μ-loop
-returns-2 c = search (needs, sweeps)
-
 pub sweep-spec : {M : Type 1} → statement M
 sweep-spec =
     tie.close
     (tie.spec
     Inv-loop
     μ-loop
-    sub-line
-    loop-holds
+    visits-requires
+    cast-turns
     index-of-requires
+    loop-holds
+    add-tags
+    cast-tags
+    rem-tags
     mul-tags
     slice-write-tags
-    wrapping-add-u32-requires
+    add-n
     loop-less
     loop-again
     same-length
-    returns
-    same-length-2
-    returns-2)
+    returns)
