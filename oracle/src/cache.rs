@@ -28,6 +28,26 @@ pub const KIND_PENALTY: u8 = 10;
 pub const START: u32 = 0;
 pub const SIZE: u32 = 0x8000;
 
+/// Lines of a bank.
+const LINES: u32 = 256;
+const LINE_BYTES: u32 = 32;
+
+/// How many lines an external write visits where it stops as soon as every index is empty (W-204): the published
+/// loop, counted.
+pub fn lines_visited(pa: u32, len: u32) -> u32 {
+    let end = pa.saturating_add(len);
+    let mut line = pa - pa % LINE_BYTES;
+    let mut visited = 0;
+    while line < end && visited < LINES {
+        visited += 1;
+        line = line.wrapping_add(LINE_BYTES);
+        if line == 0 {
+            break;
+        }
+    }
+    visited
+}
+
 /// The answer line: the event's value, then the whole state.
 pub fn line(value: u32, state: &Cache) -> String {
     let (i, d) = (&state.i, &state.d);

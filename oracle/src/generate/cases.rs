@@ -1,9 +1,11 @@
 //! Scripts that are no chance: document 01's whole case, its run-only corner at a size that fits
-//! into a script, numbers that are none, and a header on each side of every rule.
+//! into a script, external writes around a bank's size and of nearly 4 GiB, numbers that are none, and a
+//! header on each side of every rule.
 
 use crate::event::Event;
 use crate::machine::{
-    KIND_ENABLE, KIND_FETCH, KIND_IRET, KIND_LOAD, KIND_OUTPUT, KIND_SOURCE, KIND_STORE, KIND_WRITE,
+    KIND_ENABLE, KIND_EXTERNAL, KIND_FETCH, KIND_IRET, KIND_LOAD, KIND_OUTPUT, KIND_SOURCE,
+    KIND_STORE, KIND_WRITE,
 };
 use crate::script::{Script, HEADER, LONGEST, PAGE};
 
@@ -12,6 +14,7 @@ pub fn all() -> Vec<Vec<u8>> {
     let mut scripts = vec![
         whole_case().write(),
         stolen_slot().write(),
+        sweeps().write(),
         odd_numbers().write(),
     ];
     scripts.extend(HEADERS.iter().map(|(words, length)| bare(*words, *length)));
@@ -72,6 +75,49 @@ fn stolen_slot() -> Script {
         last: 8,
     }
 }
+
+/// External writes, each over lines that both banks hold: at the first two indexes, at the last two, and at two in
+/// the middle. A write that starts at index 1 comes last to index 0, and the topmost line has the last index.
+fn sweeps() -> Script {
+    let held = [0, 1, 0x7F, 0x80, 0xFE, 0xFF].map(|index| index * LINE);
+    let mut events = Vec::new();
+    for (a, b) in SWEEPS {
+        events.extend(held.map(load));
+        events.extend(held.map(|a| Event {
+            kind: KIND_FETCH,
+            ..load(a)
+        }));
+        events.push(Event {
+            kind: KIND_EXTERNAL,
+            a,
+            b,
+            ..Event::default()
+        });
+    }
+    Script {
+        events,
+        image: vec![0; 2 * PAGE as usize],
+        base: 0,
+        last: 8,
+    }
+}
+
+const LINE: u32 = 32;
+
+/// Addresses and lengths: of nothing; 255, 256 and 257 lines; to the top and over it; nearly 4 GiB.
+const SWEEPS: [(u32, u32); 11] = [
+    (0x20, 0),
+    (0x25, 0),
+    (0x20, 255 * LINE),
+    (0x25, 255 * LINE - 5),
+    (0x25, 255 * LINE - 4),
+    (0x20, 256 * LINE),
+    (0x20, 256 * LINE + 1),
+    (0xFFFF_E025, 0x1FDA),
+    (0xFFFF_E025, u32::MAX),
+    (0x25, 0xFFFF_FFA0),
+    (0x25, u32::MAX),
+];
 
 /// Sizes that are no sizes; sources that a byte would take for source 3, and a level in a high bit.
 fn odd_numbers() -> Script {

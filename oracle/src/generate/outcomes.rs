@@ -61,7 +61,7 @@ pub const OF_ACCESSES: [(&str, Test); 38] = [
 
 /// Outcomes of one kind of events.
 #[rustfmt::skip]
-pub const OF_KINDS: [(u8, &str, Test); 65] = [
+pub const OF_KINDS: [(u8, &str, Test); 67] = [
     (KIND_LOAD, "load: hits", |s| s.after.cache.d.hits != s.before.cache.d.hits),
     (KIND_LOAD, "load: misses", |s| s.after.cache.d.misses != s.before.cache.d.misses),
     (KIND_LOAD, "load: stalls", |s| s.answer.stall > 0),
@@ -112,7 +112,9 @@ pub const OF_KINDS: [(u8, &str, Test); 65] = [
     (KIND_EXTERNAL, "external write: of some lines", |s| (33..8_160).contains(&s.event.b)),
     (KIND_EXTERNAL, "external write: about the whole bank", |s| (8_160..=8_193).contains(&s.event.b)),
     (KIND_EXTERNAL, "external write: more than a bank", |s| s.event.b > 8_193),
+    (KIND_EXTERNAL, "external write: every index, lines to spare", |s| lines(s) > 256),
     (KIND_EXTERNAL, "external write: to the top", |s| s.event.a.checked_add(s.event.b).is_none()),
+    (KIND_EXTERNAL, "external write: to the top, lines to spare", |s| s.event.a.checked_add(s.event.b).is_none() && lines(s) > 256),
     (KIND_EXTERNAL, "external write: drops a line", |s| s.after.cache != s.before.cache),
     (KIND_CACHE_READ, "read cache register: not 0", |s| s.answer.outcome != Outcome::Value(0)),
     (KIND_CACHE_READ, "read cache register: unknown", |s| !matches!(s.event.a, 0 | 4 | 0x10 | 0x14 | 0x18 | 0x1C)),
@@ -195,6 +197,12 @@ fn wraps(s: &Seen) -> bool {
 
 fn crosses_page(s: &Seen) -> bool {
     s.event.a / PAGE != last(s) / PAGE
+}
+
+/// The lines that an external write covers.
+fn lines(s: &Seen) -> u32 {
+    let end = s.event.a.saturating_add(s.event.b);
+    end.div_ceil(32).saturating_sub(s.event.a / 32)
 }
 
 /// The map is the cacheable range; an address of the range's saturated end is in no map.

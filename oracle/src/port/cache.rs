@@ -19,6 +19,7 @@ extern "C" {
     fn cache_load(c: Cache, pa: u32) -> CacheAccess;
     fn cache_store(c: Cache, pa: u32) -> Cache;
     fn cache_external_write(c: Cache, pa: u32, len: u32) -> Cache;
+    fn cache_lines_visited(pa: u32, len: u32) -> u32;
     fn cache_read_reg(c: Cache, offset: u32) -> u32;
     fn cache_write_reg(c: Cache, offset: u32, value: u32) -> Cache;
     fn cache_read_byte(c: Cache, addr: u32) -> u8;
@@ -29,6 +30,12 @@ extern "C" {
 pub fn with_penalty(ram_start: u32, ram_size: u32, penalty: u32) -> Cache {
     // SAFETY: see the head of `port`.
     unsafe { cache_set_penalty(cache_new(ram_start, ram_size), penalty) }
+}
+
+/// How many lines of each bank an external write visits.
+pub fn lines_visited(pa: u32, len: u32) -> u32 {
+    // SAFETY: see the head of `port`.
+    unsafe { cache_lines_visited(pa, len) }
 }
 
 /// The port's side.

@@ -5,8 +5,9 @@ use oracle::both::{same, step};
 use oracle::cpu_privilege::{Access, Exception, SystemState};
 use oracle::event::{Event, Replay};
 use oracle::generate::run::Run;
+use oracle::generate::system::edge;
 use oracle::generate::tables::Layout;
-use oracle::generate::{cache::Generator, irqc, scripts, states};
+use oracle::generate::{cache::length, cache::Generator, irqc, scripts, states};
 use oracle::machine::Machine;
 use oracle::port;
 use oracle::random::Random;
@@ -48,6 +49,7 @@ fn over_tables(seed: u64, count: u64, lanes: &mut Generator) -> Result<(), Strin
         translation(&mut run, &state, &image)?;
         slots(&mut run, &state)?;
         registers(&mut run, lanes)?;
+        lines_visited(&mut run)?;
         exception(&mut run.random)?;
     }
     Ok(())
@@ -125,6 +127,22 @@ fn registers(run: &mut Run, lanes: &mut Generator) -> Result<(), String> {
     let mut port = port::cache::Port(state);
     same_step(&mut published, &mut port, &event)?;
     same("cache", &published.state(), &port.0)
+}
+
+/// How many lines an external write of any length visits: none is carried out, so none is cut.
+fn lines_visited(run: &mut Run) -> Result<(), String> {
+    let pa = match run.random.below(4) {
+        0 => run.random.word(),
+        1 => u32::MAX - run.random.below(0x3000),
+        _ => edge(&mut run.random, &run.layout),
+    };
+    let mut uncut = 1;
+    let len = length(&mut run.random, pa, &mut uncut);
+    same(
+        &format!("lines visited from {pa:08X} for {len:08X}"),
+        &cache::lines_visited(pa, len),
+        &port::cache::lines_visited(pa, len),
+    )
 }
 
 fn same_step(

@@ -41,7 +41,7 @@ const fn rule(
 }
 
 #[rustfmt::skip]
-pub const RULES: [Rule; 106] = [
+pub const RULES: [Rule; 109] = [
     // Interrupt controller.
     rule("latch-on-level", IRQC, "if level && !old_level {", "if level {"),
     rule("highest-source", IRQC, "number: active.trailing_zeros() as u8,", "number: 15 - active.leading_zeros() as u8,"),
@@ -56,6 +56,9 @@ pub const RULES: [Rule; 106] = [
     rule("sweep-of-nothing", CACHE, "let mut line = pa & !((1 << LINE_SHIFT) - 1);", "if len == 0 { return; } let mut line = pa & !((1 << LINE_SHIFT) - 1);"),
     rule("sweep-spares-data", CACHE, "self.d.tags[index] = INVALID;", ""),
     rule("sweep-only-cacheable", CACHE, "while line < end {", "while self.cacheable(line) && line < end {"),
+    rule("sweep-of-255-lines", CACHE, "while line < end {", "let stop = line.saturating_add(255 << LINE_SHIFT); while line < end.min(stop) {"),
+    rule("sweep-spares-topmost", CACHE, "while line < end {", "while line < end.min(0xFFFF_FFE0) {"),
+    rule("sweep-goes-round", CACHE, "if line == 0 {", "if line == 0 { self.i.tags[0] = INVALID; self.d.tags[0] = INVALID;"),
     rule("disable-keeps-tags", CACHE, "if self.enabled != enabled {", "if enabled && !self.enabled {"),
     rule("reset-clears-penalty", CACHE, "self.d.enabled = true;", "self.d.enabled = true; self.miss_penalty = 0;"),
     rule("range-wraps", CACHE, "ram_end: ram_start.saturating_add(ram_size),", "ram_end: ram_start.wrapping_add(ram_size),"),
@@ -160,10 +163,14 @@ pub const RULES: [Rule; 106] = [
 ];
 
 #[rustfmt::skip]
-pub const SILENT: [Silent; 5] = [
+pub const SILENT: [Silent; 6] = [
     Silent {
         rule: rule("page-zero-test", PRIVILEGE, "if page == last >> PAGE_SHIFT || page.wrapping_add(1) == 0 {", "if page == last >> PAGE_SHIFT {"),
         reason: "pages from 0xFFFF0000 on were refused before, so no page that passed is followed by page 0",
+    },
+    Silent {
+        rule: rule("sweep-of-256-lines", CACHE, "while line < end {", "let stop = line.saturating_add(256 << LINE_SHIFT); while line < end.min(stop) {"),
+        reason: "256 lines in a row have every index among them (W-204)",
     },
     Silent {
         rule: rule("clear-any-bit", IRQC, "self.pending &= !(mask & SOURCE_MASK);", "self.pending &= !mask;"),

@@ -9,7 +9,7 @@ use oracle::port::machine::{listing, listing_within};
 use oracle::script::Script;
 use oracle::watch::Unwatched;
 
-/// The bytes that the external writes of one script may sweep: more take long and show nothing new.
+/// The bytes that the external writes of one script may sweep: more take the published Rust long and show nothing new.
 const MOST_SWEPT: u64 = 1 << 20;
 
 /// Tells the fuzzer to leave an input out of its corpus.

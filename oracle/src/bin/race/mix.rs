@@ -25,8 +25,8 @@ pub fn mix(count: u32) -> Vec<Work> {
     works
 }
 
-/// Some scripts sweep up to 2^27 lines of the cache in one event, which would hide all others: every sweep
-/// is cut to less than two banks, as the generator cuts most.
+/// Some scripts sweep up to 2^27 lines of the cache in one event. The Rust visits each, which would hide all other
+/// events: every sweep is cut to less than two banks, as the generator cuts most. The row `sweeps` has the long ones.
 pub fn shortened(event: Event) -> Event {
     match event.kind {
         KIND_EXTERNAL => Event {

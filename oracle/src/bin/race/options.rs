@@ -22,6 +22,7 @@ Rows:
   regions supervisor      loads checked by regions, and by nothing
   controller traps        sources that rise, are cleared and fall; traps and returns
   mix                     the generator's scripts, one after the other
+  sweeps                  few external writes of nearly 4 GiB, each with a load behind it
   load-call store-call fetch-call    the first three by one by-value call an event
   load-lent store-lent fetch-lent    the first three by one call an event over a state that the caller holds
   floor                   address arithmetic and the data load alone

@@ -2,8 +2,8 @@
 
 use oracle::event::Event;
 use oracle::machine::{
-    KIND_CLEAR, KIND_ENABLE, KIND_FETCH, KIND_IRET, KIND_LOAD, KIND_OUTPUT, KIND_SOURCE,
-    KIND_STORE, KIND_TRAP,
+    KIND_CLEAR, KIND_ENABLE, KIND_EXTERNAL, KIND_FETCH, KIND_IRET, KIND_LOAD, KIND_OUTPUT,
+    KIND_SOURCE, KIND_STORE, KIND_TRAP,
 };
 use oracle::script::PAGE;
 
@@ -59,7 +59,7 @@ const fn lent(name: &'static str, work: fn(u32) -> Vec<Work>) -> Row {
     }
 }
 
-pub const ROWS: [Row; 16] = [
+pub const ROWS: [Row; 17] = [
     row("loads", 0.35, 1, loads),
     row("stores", 0.5, 1, stores),
     row("fetches", 0.5, 1, fetches),
@@ -70,6 +70,7 @@ pub const ROWS: [Row; 16] = [
     row("controller", 1.0, 1, controller),
     row("traps", 1.0, 1, traps),
     row("mix", 1.0, 10, mix),
+    row("sweeps", 0.001, 1_000_000, sweeps),
     call("load-call", loads),
     call("store-call", stores),
     call("fetch-call", fetches),
@@ -157,9 +158,18 @@ fn traps(count: u32) -> Vec<Work> {
     })
 }
 
+/// External writes of nearly 4 GiB, from mid-line on. Behind each comes a load of one word: its stall shows that
+/// the line is gone.
+fn sweeps(count: u32) -> Vec<Work> {
+    over_scene(Vec::new(), 2 * count, |i| match i % 2 {
+        0 => event(KIND_EXTERNAL, 0, 0, 5 + 16 * i, 0xFFFF_F000),
+        _ => event(KIND_LOAD, 4, 0, DATA, 0),
+    })
+}
+
 #[cfg(test)]
 mod tests {
-    use super::{crossings, mix, Row, ROWS};
+    use super::{crossings, mix, sweeps, Row, ROWS};
     use crate::sides::{port_lent, published, Totals};
     use crate::work::translated;
     use oracle::event::{Event, LENGTH};
@@ -212,6 +222,16 @@ mod tests {
     fn region_and_supervisor_loads_pass() {
         assert_eq!(totals("regions").1.exceptions, 17);
         assert_eq!(totals("supervisor").1.bus_errors, 17);
+    }
+
+    /// Each load behind a sweep misses.
+    #[test]
+    fn sweeps_drop_the_line() {
+        let [work] = &sweeps(2)[..] else {
+            panic!("one run");
+        };
+        let stall = published(work).totals.stall;
+        assert_eq!(stall, 2 * u64::from(work.script.last));
     }
 
     /// The calls over a lent state agree on events of all kinds.

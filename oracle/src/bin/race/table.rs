@@ -31,6 +31,7 @@ impl Target {
 
     fn text(&self) -> String {
         match self {
+            Target::Ratio(most) if *most < SMALL => format!("{most}"),
             Target::Ratio(most) => format!("{most:.2}"),
             Target::Under(limit) => format!("{} ms", limit.as_millis()),
             Target::None => String::new(),
@@ -50,8 +51,23 @@ pub fn in_events(name: &str, pair: &Pair, target: &Target) -> String {
         name,
         pair,
         target,
-        [rust, port].map(|each| format!("{each:.2} ns")),
+        [rust, port].map(|each| match each {
+            0.0..LONG => format!("{each:.2} ns"),
+            _ => format!("{:.2} ms", each / 1e6),
+        }),
     )
+}
+
+/// From here on an event's nanoseconds are shown as milliseconds.
+const LONG: f64 = 1e5;
+/// Below this a ratio has no two digits to show.
+const SMALL: f64 = 0.01;
+
+fn ratio(pair: &Pair) -> String {
+    match pair.ratio() {
+        small if small < SMALL => format!("{small:.0e}"),
+        ratio => format!("{ratio:.2}"),
+    }
 }
 
 /// A row in milliseconds for all of it.
@@ -67,7 +83,7 @@ fn line(name: &str, pair: &Pair, target: &Target, [rust, port]: [String; 2]) -> 
         &pair.events.to_string(),
         &rust,
         &port,
-        &format!("{:.2}", pair.ratio()),
+        &ratio(pair),
         &target.text(),
         target.met(pair),
     ])
