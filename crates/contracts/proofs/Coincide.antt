@@ -213,6 +213,7 @@ machine-settled = record {
         (record { machine = machine i; place = listed i .1; totals = totals i }, (tt, (memory i, (tt, (tt, (tt, (tt, (listed i .0, (tt, tt)))))))));
   };
   list = record { coincide = λ p q. next (text p q) };
+  list-whole = record { coincide = λ p q. next (text (p .0) (q .0)) };
 }
 
 machine-flat-settled : MachineFlat

@@ -13,6 +13,7 @@ pub record Machine : Type 0 where
   pub step : Settled machine.state.Machine.step.ended machine.state.Machine.step.Reads.Learnt
   pub run : Settled machine.state.Machine.run.ended machine.state.Machine.run.Reads.Learnt
   pub list : Settled machine.run.list.ended machine.run.list.Reads.Learnt
+  pub list-whole : Settled machine.run.list_whole.ended machine.run.list_whole.Reads.Learnt
 
 -- where the machine's words stand
 pub record MachineFlat : Type 0 where

@@ -1,16 +1,16 @@
 -- A run's loop: what is left of the run, after each event. Assumes nothing.
-use Prim.Native.Nat.{ℕ, _+_, _*_, _-_, _^_, _≤_, _<_}
+use Prim.Native.Nat.{ℕ, _+_, _*_, _-_, _^_, _≤_, _<_, min}
 use mathlib.Core.Path.{_≡_, refl, sym, ap, _∙_}
 use mathlib.Core.List.{List, [], _++_}
 use native.Mathlib.Omega.{arith}
-use lib.ListN.{length}
+use lib.ListN.{length, take, length-take}
 use mir.Syntax.{w32}
 use mir.Val.{Fits}
 use Rattle.common.specs.Refusal.{refusalNumber}
 use Rattle.common.specs.declared.Refusal.{Refusal}
 use Rattle.listing.specs.Listing.{lineText, linesFrom, endText, refusedText}
 use Rattle.listing.specs.declared.Line.{Line}
-use Rattle.listing.specs.Listing.Laws.{listing-is, lines-next, lines-done}
+use Rattle.listing.specs.Listing.Laws.{listing-is, lines-next, lines-done, shown}
 use Rattle.memory.specs.Memory.{Memory, lent}
 use Rattle.script.specs.Event.{eventAt}
 use Rattle.script.specs.Header.{scriptOf}
@@ -25,7 +25,7 @@ use Rattle.machine.specs.Event.Laws.{step-lent}
 use Rattle.machine.specs.Flat.{stateWords, machineAt, StepsAny}
 use Rattle.machine.specs.FlatRun.{RunsAny}
 use Rattle.machine.specs.Run.{Run, after, runFrom, scriptRun, listed, listingOf}
-use Rattle.machine.specs.Run.Laws.{run-lines, run-none, run-next}
+use Rattle.machine.specs.Run.Laws.{run-lines, run-none, run-next, listing-whole}
 use Rattle.machine.specs.State.{newMachine}
 use Rattle.machine.specs.Totals.{noTotals, counted, totalsFrom}
 use Rattle.machine.specs.declared.totals.Totals.{Totals}
@@ -199,3 +199,10 @@ module _ (s : List ℕ) (h : Header) (out : List ℕ) (z : List ℕ × ℕ) wher
 pub refused-listed : (s out : List ℕ) (z : List ℕ × ℕ) (x : Script) (r : Refusal) (n : ℕ) → x ≡ scriptOf s → x ≡ Refused r → n ≡ refusalNumber r → z ≡ written (out, 0) (refusedText n) → z ≡ written (out, 0) (listingOf s)
 unfolding listingOf listed
 refused-listed s out z x r n f g e q = q ∙ ap (written (out, 0)) (rw (← f, g, e))
+
+-- a buffer of the longest listing's length holds the listing whole
+pub holds-whole : (out out′ s : List ℕ) (r : ℕ) → length out ≡ 131072 → (out′, r) ≡ written (out, 0) (listingOf s) → (r ≤ length out′) × (take r out′ ≡ listingOf s)
+holds-whole out out′ s r n e =
+    let q = shown out (listingOf s) out′ r (rw n (listing-whole s)) e in
+    let t : min r (length out′) ≡ length (listingOf s) = sym (length-take r out′) ∙ ap length (q .1) in
+    (omega (arith, q .0), q .1)

@@ -1,7 +1,8 @@
 // A run over a script's events, and its listing.
 ghost use mathlib.Core.Path.{_≡_};
 ghost use mathlib.Core.List.{_++_};
-ghost use lib.ListN.{length};
+ghost use Prim.Native.Nat.{_≤_};
+ghost use lib.ListN.{length, take};
 ghost use Rattle.listing.specs.Listing.{linesFrom, endText};
 ghost use Rattle.memory.specs.Memory.{lent};
 ghost use Rattle.text.specs.Text.{written};
@@ -13,6 +14,7 @@ use crate::flat::state::pack;
 use crate::flat::state::unpack;
 use crate::state::Machine;
 use crate::totals::Totals;
+use listing::LISTING_MAX;
 use listing::put_refused;
 use script::header::Header;
 use script::header::Script;
@@ -67,7 +69,7 @@ fn list_good(script: &[u8], h: Header, mem: &mut [u8], out: &mut [u8]) -> usize
     ran.place
 }
 
-// The listing of a whole script: how much of the buffer it fills.
+// The listing of a whole script, as far as the buffer has room: how much of it is filled.
 pub fn list(script: &[u8], out: &mut [u8]) -> usize
     ensures { λ r. ⌜ (now (out .exit), r) ≡ written (now (out .entry), 0) (listingOf (now (script .entry))) ⌝ }
 {
@@ -80,4 +82,12 @@ pub fn list(script: &[u8], out: &mut [u8]) -> usize
             list_good(script, h, &mut mem[..image], out)
         }
     }
+}
+
+// The listing of any script, whole: the buffer has room for the longest. How many of its first bytes are the listing.
+pub fn list_whole(script: &[u8], out: &mut [u8; LISTING_MAX]) -> usize
+    ensures { λ r. ⌜ (now (out .exit), r) ≡ written (now (out .entry), 0) (listingOf (now (script .entry))) ⌝ }
+    ensures { λ r. ⌜ (r ≤ length (now (out .exit))) × (take r (now (out .exit)) ≡ listingOf (now (script .entry))) ⌝ }
+{
+    list(script, out)
 }

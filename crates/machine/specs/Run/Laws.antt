@@ -2,16 +2,23 @@
 --
 --   over-lines     == a run has a line for each event
 --   run-lines      == so a run of n events of a script has n lines
+--   listing-whole  == every script's listing fits into `LISTING_MAX` bytes
 --   run-none, run-next == a run of no event, and of one event more: the event's step, and the run on what that left
-use Prim.Native.Nat.{ℕ, zero, suc, _+_}
+use Prim.Native.Nat.{ℕ, zero, suc, _+_, _≤_}
 use mathlib.Core.Path.{_≡_, refl, ap, _∙_}
 use mathlib.Core.List.{List, [], _∷_}
 use lib.ListN.{length}
+use Rattle.common.specs.Refusal.{refusalNumber}
+use Rattle.listing.specs.Listing.Laws.{listing-fits, refused-fits}
 use Rattle.memory.specs.Memory.{Memory}
 use Rattle.script.specs.Event.{eventAt, eventsFrom, events-none, events-next}
+use Rattle.script.specs.Header.{scriptOf}
+use Rattle.script.specs.Header.Laws.{good-sound}
 use Rattle.script.specs.declared.Event.{Event}
+use Rattle.script.specs.declared.header.Script.{Script}
+use Rattle.script.specs.declared.header.Script.the-variants.{Good, Refused}
 use Rattle.machine.specs.Event.{stepOf}
-use Rattle.machine.specs.Run.{after, runOver, runFrom}
+use Rattle.machine.specs.Run.{after, runOver, runFrom, scriptRun, listed, listingOf}
 use Rattle.machine.specs.declared.state.Machine.{Machine}
 
 pub over-none : (M : Machine) (m : Memory) → runOver [] M m ≡ record { machine = M; memory = m; lines = [] }
@@ -41,3 +48,12 @@ run-none s at M m = ap (λ (es : List Event). runOver es M m) (events-none s at)
 pub run-next : (n : ℕ) (s : List ℕ) (at : ℕ) (M : Machine) (m : Memory)
     → runFrom (suc n) s at M m ≡ after (stepOf M m (eventAt s at) .stepped .line) (runFrom n s (at + 12) (stepOf M m (eventAt s at) .stepped .machine) (stepOf M m (eventAt s at) .memory))
 run-next n s at M m = ap (λ (es : List Event). runOver es M m) (events-next s at n) ∙ over-next (eventAt s at) (eventsFrom n s (at + 12)) M m
+
+listed-whole : (s : List ℕ) (c : Script) → scriptOf s ≡ c → length (listed s c) ≤ 131072
+unfolding listed scriptRun
+listed-whole s (Good h) e = listing-fits (scriptRun s h .lines) (rw run-lines (good-sound s h e .few-events))
+listed-whole s (Refused r) e = refused-fits (refusalNumber r)
+
+pub listing-whole : (s : List ℕ) → length (listingOf s) ≤ 131072
+unfolding listingOf
+listing-whole s = listed-whole s (scriptOf s) refl
