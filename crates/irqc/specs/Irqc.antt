@@ -13,7 +13,7 @@
 -- more does nothing. `levelsSet` is what the Rust's comment promises, each selected source set by itself; that the Rust
 -- skips the sources which keep their level is the code's business, and is proved to make no difference.
 use Prim.Native.Nat.{ℕ, zero, suc, _+_, _*_, _/_, _%_}
-use mathlib.Core.Bool.{Bool, true, false, cond, _&&_, not}
+use mathlib.Core.Bool.{Bool, true, false, cond, _&&_}
 use lib.Dec.{ltb, eqb}
 use Rattle.common.specs.Bits.{bitSet, withBit, withoutBit, withoutBits}
 use Rattle.irqc.specs.declared.IrqController.{IrqController}

@@ -120,9 +120,10 @@ impl IrqController {
         let active = self.pending & self.enable;
         let n = u16::trailing_zeros(active);
         if n < 16 {
+            let number = n as u8;
             IrqOutput {
                 valid: true,
-                number: n as u8,
+                number,
             }
         } else {
             IrqOutput {

@@ -5,8 +5,8 @@ use Rattle.irqc.proofs.Output.{output-some, output-none}
 use Rattle.irqc.proofs.IrqController.irq_output.Statement.{statement}
 use Rattle.irqc.proofs.IrqController.irq_output.Tie as tie
 
-cast-t6 : tie.Need-cast-t6
-cast-t6 c = search needs
+cast-number : tie.Need-cast-number
+cast-number c = search needs
 
 returns : tie.Need-returns
 returns c = search output-some
@@ -15,4 +15,4 @@ returns-2 : tie.Need-returns-2
 returns-2 c = search output-none
 
 pub irq-output-spec : {M : Type 1} → statement M
-irq-output-spec = tie.close (tie.spec cast-t6 returns returns-2)
+irq-output-spec = tie.close (tie.spec cast-number returns returns-2)

@@ -17,7 +17,7 @@ returns c =
     let on = bitAnd (a .levels) (a .mask) in
     sym (none-changed (a .self) on 16)
     ∙ ap (λ (m : ℕ). eachSet (a .self) m on 16) (sym (c .if1 .taken))
-    ∙ changed-is (a .self) (a .mask) (a .levels) 16 (omega arith) (lit≤ tt)
+    ∙ changed-is (a .self) (a .mask) (a .levels) 16 (omega arith, omega arith, omega arith) (lit≤ tt)
 
 set-changed-source-levels-requires : tie.Need-set-changed-source-levels-requires
 set-changed-source-levels-requires c κs = search needs
@@ -25,7 +25,7 @@ set-changed-source-levels-requires c κs = search needs
 returns-2 : tie.Need-returns-2
 returns-2 c =
     let a = c .before .before .before .args in
-    c .set-changed-source-levels .ensures ∙ changed-is (a .self) (a .mask) (a .levels) 16 (omega arith) (lit≤ tt)
+    c .set-changed-source-levels .ensures ∙ changed-is (a .self) (a .mask) (a .levels) 16 (omega arith, omega arith, omega arith) (lit≤ tt)
 
 pub set-source-levels-spec : {M : Type 1} → statement M
 set-source-levels-spec = tie.close (tie.spec returns set-changed-source-levels-requires returns-2)
