@@ -1,5 +1,5 @@
 pub mod Judged
 pub mod Written
 pub mod Answered
+pub mod Counted
 pub mod Sentences
-pub mod Once

@@ -1,9 +1,9 @@
 -- W-201's sentences, proved of the definitions. Assumes nothing.
 use Prim.Native.Nat.{ℕ, _+_, _-_, _*_, _/_, _%_, _≤_, _<_}
 use mathlib.Core.Path.{_≡_, refl, sym, _∙_}
-use mathlib.Core.Bool.{Bool, true, false, _&&_, _||_, not, and-false}
-use mathlib.Core.List.{List, []}
-use mathlib.Core.Logic.{⊎-elim}
+use mathlib.Core.Bool.{Bool, true, false, cond, _&&_, _||_, not, and-false}
+use mathlib.Core.List.{List, [], _∷_}
+use mathlib.Core.Logic.{inl, inr, ⊎-elim}
 use native.Mathlib.Decide.{ℕ-discrete}
 use native.Mathlib.Omega.{arith}
 use lib.Dec.{leb, ltb, eqb}
@@ -18,22 +18,25 @@ use Rattle.mmu.specs.Opened.{TableByte, Opened}
 use Rattle.mmu.specs.Walk.{wordOfTable, walkOf}
 use Rattle.mmu.specs.Check.{pageAddr}
 use Rattle.mmu.specs.declared.exception.Access.{Access}
+use Rattle.mmu.specs.declared.exception.Access.the-variants.{Write}
 use Rattle.mmu.specs.declared.vm.Vm.{Vm}
 use Rattle.mmu.specs.declared.walk.Walked.the-variants.{Leaf, Missing}
 use Rattle.mmu.specs.Walk.Laws.{leaf-by-bits}
 use Rattle.mmu.specs.Vm.Laws.{no-entries}
 use Rattle.tables.specs.declared.mapping.Mapping.{Mapping}
 use Rattle.tables.specs.declared.refusal.Refusal.{Refusal}
+use Rattle.tables.specs.declared.refusal.Refusal.the-variants as refusal
 use Rattle.tables.specs.declared.write.Tables.{Tables}
 use Rattle.tables.specs.declared.write.Tables.the-variants.{Written, Refused}
 use Rattle.tables.specs.Mapping.{mapping, mappings, leafAt, onlyListed, goodPage, goodMapping, allGood, ascendingFrom, goodList}
-use Rattle.tables.specs.Mapping.Laws.{good-short, good-ppns, good-bits, good-ascending, ascending-pairs, pairs-ascending}
+use Rattle.tables.specs.Mapping.Laws.{good-short, good-ppns, good-bits, good-ascending, pages-of, ascending-pairs, pairs-ascending}
 use Rattle.tables.specs.Words.Laws.{put-words-map}
 use Rattle.tables.specs.Tables.{directoriesAfter, directories, tableFor, framesFor, goodRun, image, answerFor, byAnswer, memoryAfter, Call, listOf, answerTo, after}
 use Rattle.tables.specs.Tables.Laws.{Accepted, accepted, run-aligned, run-covered}
-use Rattle.tables.specs.Found.{made, entryOf, InFrames, NoEntry, Opens}
-use Rattle.tables.specs.Found.Laws.{answer-ptbr, answer-used, written-memory, walk-listed, walk-unlisted, word-of-level1, word-of-table, pages-ascend, directory-word, bytes-outside, bytes-equal, tables-inside, frames-are-tables, list-opens, opened-list}
-use Rattle.tables.specs.Meaning.{InOrder, Wrote, Meaning}
+use Rattle.tables.specs.Found.{made, Listed, entryOf, InFrames, NoEntry, Opens}
+use Rattle.tables.specs.Found.Laws.{answer-ptbr, answer-used, written-memory, listed-good, walk-listed, walk-unlisted, word-of-level1, word-of-table, pages-ascend, directory-word, bytes-outside, bytes-equal, tables-inside, frames-are-tables, list-opens, opened-list}
+use Rattle.tables.specs.Meaning.{InOrder, Wrote, First, Applies, indexes, distinct, Meaning}
+use Rattle.tables.proofs.Counted.{frames-counted}
 
 -- ---- of a call that wrote
 
@@ -72,6 +75,41 @@ unfolding framesFor
 later vs j used e h = omega arith
 
 -- ---- of what is refused
+
+first-refused : (c : Call) (r : Refusal) → Applies c r → answerTo c ≡ Refused r
+unfolding answerFor
+first-refused c refusal.Map h = rw h
+first-refused c refusal.Order h = rw (h .0, h .1)
+first-refused c refusal.Leaf h = rw (h .0, h .1, h .2)
+first-refused c refusal.Run h = rw (h .0, h .1, h .2, h .3)
+first-refused c refusal.Frames h = rw (h .0, h .1, h .2, h .3, h .4)
+
+-- by what the five questions are answered
+which : (m l v n f : Bool) (first used : ℕ) (r : Refusal)
+    → cond m (cond l (cond v (cond n (cond f (Written first used) (Refused refusal.Frames)) (Refused refusal.Run)) (Refused refusal.Leaf)) (Refused refusal.Order)) (Refused refusal.Map) ≡ Refused r
+    → First r m l v n f
+which false l v n f first used r e = let z : refusal.Map ≡ r = cc in rw (← z) refl
+which true false v n f first used r e = let z : refusal.Order ≡ r = cc in rw (← z) (refl, refl)
+which true true false n f first used r e = let z : refusal.Leaf ≡ r = cc in rw (← z) (refl, refl, refl)
+which true true true false f first used r e = let z : refusal.Run ≡ r = cc in rw (← z) (refl, refl, refl, refl)
+which true true true true false first used r e = let z : refusal.Frames ≡ r = cc in rw (← z) (refl, refl, refl, refl, refl)
+which true true true true true first used r e = absurd-eq (cc)
+
+refused-first : (c : Call) (r : Refusal) → answerTo c ≡ Refused r → Applies c r
+unfolding answerFor
+refused-first c r e =
+    which (goodMap (c .memory .base) (length (c .memory .bytes))) (goodList (c .vpns) (c .ppns) (c .bits)) (allGood (listOf c))
+    (goodRun (c .memory) (c .first) (c .frames)) (leb (framesFor (c .vpns)) (c .frames)) (c .first) (framesFor (c .vpns)) r e
+
+all-good : (l : List Mapping) → ((x : Mapping) → Listed x l → goodMapping x ≡ true) → allGood l ≡ true
+unfolding allGood
+all-good [] h = refl
+all-good (x ∷ l) h = rw (h x (inl refl), all-good l (λ y p. h y (inr p)))
+
+needed : (c : Call) → goodList (c .vpns) (c .ppns) (c .bits) ≡ true → allGood (listOf c) ≡ true → framesFor (c .vpns) ≡ 1 + distinct (indexes (c .vpns))
+needed c g v =
+    let pages = pages-of (c .vpns) (c .ppns) (c .bits) g in
+    rw pages at (frames-counted (listOf c) (rw pages (good-ascending (c .vpns) (c .ppns) (c .bits) g)) v)
 
 refused-kept : (c : Call) (r : Refusal) → answerTo c ≡ Refused r → after c ≡ c .memory
 unfolding memoryAfter byAnswer
@@ -182,6 +220,8 @@ meaning-holds =
           said c p u w (λ m q n. (InFrames q n a → ⊥) → byteAt m a ≡ byteAt (c .memory) a) (bytes-outside c (good c p u w) a);
       map-stays = λ c. same-map (c .memory) (c .first) (c .vpns) (listOf c) (answerTo c);
       refused-stays = refused-kept;
+      refused = first-refused;
+      refused-only = refused-first;
       list-accepted = list-whole;
       list-is = list-parts;
       leaf-accepted = leaf-good;
@@ -190,9 +230,13 @@ meaning-holds =
       write-only = only-w;
       high-page = page-above;
       high-frame = frame-above;
+      leaves-accepted = all-good;
+      leaves-are = λ l g x p. listed-good x l g p;
       run-accepted = run-good;
       run-unaligned = unaligned;
       run-outside = byte-outside;
+      frames-needed = needed;
+      none-needless = λ c p u w. used-is c p u w ∙ needed c (good c p u w .list) (good c p u w .leaves);
       empty-list = empty-written;
       table-bytes = table-byte;
       all-table-bytes = λ c p u w a.
@@ -205,4 +249,5 @@ meaning-holds =
         λ t. tables a h (table-byte c p u w a t),
         λ k o. pages a h k (opened-by c p u w vm e none k a o),
       );
+      unwritable = λ c p u w vm e none unopened a t o. unopened a (table-byte c p u w a t) (opened-by c p u w vm e none Write a o);
     }
