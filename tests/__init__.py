@@ -1,4 +1,4 @@
-"""Tests of the rehearsal package. They need no built program: what the programs print is stored.
+"""Tests of the rehearsal package and of tools/contracts. They need no built program: what the programs print is stored.
 
     python3 -m unittest discover -s tests -t .
 
