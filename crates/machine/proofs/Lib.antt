@@ -5,3 +5,4 @@ pub mod Accesses
 pub mod Events
 pub mod Runs
 pub mod ByValue
+pub mod Sentences

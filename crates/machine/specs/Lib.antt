@@ -5,3 +5,4 @@ pub mod Flat
 pub mod Totals
 pub mod Run
 pub mod FlatRun
+pub mod Meaning
