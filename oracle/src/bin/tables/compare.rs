@@ -12,6 +12,7 @@ use std::collections::BTreeMap;
 #[derive(Default)]
 struct Met {
     written: u64,
+    longest: u64,
     walks: u64,
     first: BTreeMap<u32, u64>,
     pairs: BTreeMap<(u32, u32), u64>,
@@ -32,6 +33,7 @@ pub fn run(seed: u64, count: u64) -> Result<String, String> {
         }
         if let Answer::Written { ptbr, .. } = answer {
             met.written += 1;
+            met.longest += u64::from(ours.vpns.len() == 512);
             met.walks += walk(&mut random, &ours, ptbr)?;
         }
     }
@@ -40,8 +42,8 @@ pub fn run(seed: u64, count: u64) -> Result<String, String> {
 
 fn report(count: u64, met: &Met) -> String {
     format!(
-        "{count} lists agreed: {} written and walked at {} addresses; first refusals {:?}; pairs {:?}",
-        met.written, met.walks, met.first, met.pairs
+        "{count} lists agreed: {} written, {} of them of 512 mappings, and walked at {} addresses; first refusals {:?}; pairs {:?}",
+        met.written, met.longest, met.walks, met.first, met.pairs
     )
 }
 
@@ -97,6 +99,9 @@ fn right(call: &Call, va: u32, found: &DebugTranslation) -> bool {
     }
 }
 
+/// How often, in a hundred, a page is repeated or a leaf is bad: in a long list that would be nearly always, so most long lists have none.
+const SLIPS: u32 = 1;
+
 /// Mostly good; each thing that can be wrong is so now and then, also several at once.
 fn any_call(random: &mut Random) -> Call {
     let pages = random.below(12);
@@ -105,9 +110,15 @@ fn any_call(random: &mut Random) -> Call {
     if random.chance(6) {
         memory.push(0);
     }
-    let vpns = any_pages(random);
-    let ppns = vpns.iter().map(|_| any_frame(random)).collect();
-    let bits = vpns.iter().map(|_| any_bits(random)).collect();
+    let count = any_count(random);
+    let slips = if count > 16 && random.chance(80) {
+        0
+    } else {
+        SLIPS
+    };
+    let vpns = any_pages(random, count, slips);
+    let ppns = vpns.iter().map(|_| any_frame(random, slips)).collect();
+    let bits = vpns.iter().map(|_| any_bits(random, slips)).collect();
     let mut call = Call {
         base: base + u32::from(random.chance(5)),
         memory,
@@ -123,19 +134,24 @@ fn any_call(random: &mut Random) -> Call {
     call
 }
 
-fn any_pages(random: &mut Random) -> Vec<u32> {
-    let count = if random.chance(3) {
-        513
-    } else {
-        random.below(16)
-    };
+/// Mostly short, now and then of any length up to the longest, the longest itself and one more.
+fn any_count(random: &mut Random) -> u32 {
+    match random.below(100) {
+        0..=2 => 513,
+        3..=5 => 512,
+        6..=8 => random.below(512),
+        _ => random.below(16),
+    }
+}
+
+fn any_pages(random: &mut Random, count: u32, slips: u32) -> Vec<u32> {
     let step = random.pick(&[1, 3, 400, 3000]);
     let mut next = random.below(0x4000);
     let mut pages = Vec::new();
     for _ in 0..count {
         pages.push(next);
         // a step of 0 is a repeat
-        next += if random.chance(1) {
+        next += if random.chance(slips) {
             0
         } else {
             1 + random.below(step)
@@ -150,15 +166,15 @@ fn any_pages(random: &mut Random) -> Vec<u32> {
     pages
 }
 
-fn any_frame(random: &mut Random) -> u32 {
-    if random.chance(1) {
+fn any_frame(random: &mut Random, slips: u32) -> u32 {
+    if random.chance(slips) {
         return random.pick(&[0xF_FFF0, 0x10_0000, 0xFFFF_FFFF]);
     }
     random.below(0xF_FFF0)
 }
 
-fn any_bits(random: &mut Random) -> u8 {
-    if random.chance(1) {
+fn any_bits(random: &mut Random, slips: u32) -> u8 {
+    if random.chance(slips) {
         return random.pick(&[0, 1, 4, 12, 16, 20, 3, 34]);
     }
     random.pick(&[2, 6, 8, 10, 14, 18, 22, 24, 26, 30])
