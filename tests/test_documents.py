@@ -38,5 +38,25 @@ class Documents(unittest.TestCase):
                 self.assertTrue((ROOT / command).exists(), command)
 
 
+class Sentences(unittest.TestCase):
+    """docs/SENTENCES.md: numbered without a gap, and every name that it gives is there."""
+
+    def rows(self):
+        lines = (ROOT / "docs" / "SENTENCES.md").read_text().splitlines()
+        return [[cell.strip() for cell in line.strip("|").split("|")] for line in lines if re.match(r"\| \d", line)]
+
+    def test_numbers(self):
+        numbers = [int(row[0]) for row in self.rows()]
+        self.assertEqual(numbers, list(range(1, len(numbers) + 1)))
+
+    def test_names(self):
+        named = {name.split("::")[-1] for row in self.rows() for cell in row[2:4] for name in re.findall("`([^`]+)`", cell)}
+        specs, code = (sorted((ROOT / "crates").glob(pattern)) for pattern in ("*/specs/**/*.antt", "*/src/**/*.rt"))
+        edits = {path.stem for path in (ROOT / "crates").glob("*/must-fail/*.edit")}
+        declared = {name for path in specs for name in re.findall(r"^\s*(?:\w+ )*([\w-]+) ?[:({]", path.read_text(), re.MULTILINE)}
+        written = {name for path in code for name in re.findall(r"\w+", path.read_text())}
+        self.assertEqual(named - edits - declared - written, set())
+
+
 if __name__ == "__main__":
     unittest.main()
