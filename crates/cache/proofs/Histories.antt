@@ -136,6 +136,9 @@ since-clear s c before o after h k =
     ∙ since-holds s (stepped (ran c before) o) 0 after (cleared-total s (ran c before) o h)
     ∙ ap (λ (n : ℕ). n % 2 ^ 32) (none-clears s (stepped (ran c before) o) 0 after k ∙ zero-add _)
 
+since-none : (s : Side) (c : L1Cache) (os : List Op) → total (bankOf s c) ≡ 0 → noneClears c os ≡ true → total (bankOf s (ran c os)) ≡ made s c os % 2 ^ 32
+since-none s c os z k = from-any s c os ∙ ap (λ (n : ℕ). n % 2 ^ 32) (rw z (none-clears s c 0 os k ∙ zero-add _))
+
 since-new : (s : Side) (start size : ℕ) (os : List Op) → noneClears (newCache start size) os ≡ true
     → total (bankOf s (ran (newCache start size) os)) ≡ made s (newCache start size) os % 2 ^ 32
 since-new s start size os k =
@@ -185,4 +188,4 @@ byte-clears c addr v h = ⊎-elim at-control elsewhere (bool-is (eqb (wordOf add
 
 pub history-holds : History
 history-holds =
-    record { from-new = from-new; from-any = from-any; since-clear = since-clear; since-new = since-new; byte-clears = byte-clears }
+    record { from-new = from-new; from-any = from-any; since-clear = since-clear; since-new = since-new; since-none = since-none; byte-clears = byte-clears }

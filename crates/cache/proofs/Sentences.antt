@@ -1,7 +1,7 @@
 -- Document 01's sentences on the L1 tag cache, proved of the definitions. Assumes nothing.
 use Prim.Native.Nat.{ℕ, _+_, _-_, _*_, _/_, _%_, _^_, _≤_, _<_}
 use mathlib.Core.Path.{_≡_, refl, sym, ap, _∙_}
-use mathlib.Core.Bool.{Bool, true, false, cond, not, _&&_, Bool·beq}
+use mathlib.Core.Bool.{Bool, true, false, cond, not, _&&_, _||_, Bool·beq}
 use mathlib.Core.Logic.{⊎-elim}
 use native.Mathlib.Nat.{mod-lt}
 use native.Mathlib.Omega.{arith}
@@ -11,10 +11,11 @@ use lib.ListN.{set}
 use lib.Seq.{getD-set-same, getD-set-other}
 use lib.Arith.{digits-div, digits-mod}
 use lib.Pow.{pow-pos, shr-shr, field, mod-mod-pow}
-use Rattle.common.specs.Cases.{bool-is, cond-holds, cond-case}
-use Rattle.cache.specs.Bank.{lineOf, lineStop, indexOf, tagOf, noTag, noTags, withTags, holds, accessed, lineDropped, dropLines, enabledTo, swept}
-use Rattle.cache.specs.Cache.{Side, iBank, dBank, bankOf, withBanks, saturated, cacheableAt, counts, stallAfter, loaded, fetched, stored, externalWritten, linesVisited, laneShift, laneOf, withByte, merged}
-use Rattle.cache.specs.Meaning.{Lines, tagAt, Meaning}
+use Rattle.common.specs.Bits.{bitSet}
+use Rattle.common.specs.Cases.{absurd-eq, bool-is, cond-holds, cond-case}
+use Rattle.cache.specs.Bank.{lineOf, lineStop, indexOf, tagOf, noTag, noTags, withTags, holds, accessed, lineDropped, dropLines, enabledTo, controlled, swept}
+use Rattle.cache.specs.Cache.{Side, iBank, dBank, bankOf, withBanks, resetOf, saturated, cacheableAt, counts, stallAfter, loaded, fetched, stored, externalWritten, linesVisited, regRead, regWritten, laneShift, laneOf, withByte, merged}
+use Rattle.cache.specs.Meaning.{Lines, tagAt, isRegister, enableBit, Meaning}
 use Rattle.cache.specs.declared.Bank.{Bank}
 use Rattle.cache.specs.declared.BankAccess.{BankAccess}
 use Rattle.cache.specs.declared.L1Cache.{L1Cache}
@@ -148,6 +149,44 @@ enable-same b = sym (enable-kept b (b .enabled) (by (b .enabled)))
     by true = refl
     by false = refl
 
+-- ---- registers
+
+no-register : (a b : Bool) → (a || b) ≡ false → (a ≡ false) × (b ≡ false)
+no-register true b h = absurd-eq (cc)
+no-register false b h = (refl, h)
+
+others-read : (c : L1Cache) (offset : ℕ) → isRegister offset ≡ false → regRead c offset ≡ 0
+unfolding regRead
+others-read c offset h =
+    let f = no-register (eqb offset 0x00 || eqb offset 0x04 || eqb offset 0x10 || eqb offset 0x14 || eqb offset 0x18) (eqb offset 0x1C) h in
+    let e = no-register (eqb offset 0x00 || eqb offset 0x04 || eqb offset 0x10 || eqb offset 0x14) (eqb offset 0x18) (f .0) in
+    let d = no-register (eqb offset 0x00 || eqb offset 0x04 || eqb offset 0x10) (eqb offset 0x14) (e .0) in
+    let b = no-register (eqb offset 0x00 || eqb offset 0x04) (eqb offset 0x10) (d .0) in
+    let a = no-register (eqb offset 0x00) (eqb offset 0x04) (b .0) in
+    rw (a .0, a .1, b .1, d .1, e .1, f .1)
+
+only-control : (c : L1Cache) (offset v : ℕ) → (offset ≡ 0x04 → ⊥) → regWritten c offset v ≡ c
+unfolding regWritten
+only-control c offset v h = rw (ne-eqb offset 0x04 h)
+
+-- the strobes empty a bank or leave its tags
+strobed : (b : Bank) (on drop clear : Bool) → enabledTo b on .tags ≡ noTags → controlled b on drop clear .tags ≡ noTags
+unfolding controlled
+strobed b on true true h = refl
+strobed b on true false h = refl
+strobed b on false true h = h
+strobed b on false false h = h
+
+control-changes : (s : Side) (c : L1Cache) (v : ℕ) → (bankOf s c .enabled ≡ enableBit s v → ⊥) → bankOf s (regWritten c 0x04 v) .tags ≡ noTags
+unfolding regWritten
+control-changes iBank c v h = strobed (c .i) (bitSet v 0) (bitSet v 8) (bitSet v 10) (enable-change (c .i) (bitSet v 0) h)
+control-changes dBank c v h = strobed (c .d) (bitSet v 1) (bitSet v 9) (bitSet v 10) (enable-change (c .d) (bitSet v 1) h)
+
+reset-banks : (s : Side) (c : L1Cache)
+    → (bankOf s (resetOf c) .tags ≡ noTags) × (bankOf s (resetOf c) .enabled ≡ true) × (bankOf s (resetOf c) .hits ≡ 0) × (bankOf s (resetOf c) .misses ≡ 0)
+reset-banks iBank c = (refl, refl, refl, refl)
+reset-banks dBank c = (refl, refl, refl, refl)
+
 -- ---- the byte lanes
 
 -- from s on it is the byte with what was above it
@@ -215,8 +254,13 @@ meaning-holds =
       visits-each = visits-each;
       visits-only = visits-only;
       visits-enough = visits-enough;
+      others-read = others-read;
+      only-control = only-control;
+      control-changes = control-changes;
       enable-change = enable-change;
       enable-same = enable-same;
       lane-written = lane-written;
       lane-kept = lane-kept;
+      reset-banks = reset-banks;
+      reset-keeps = λ c. (refl, refl, refl);
     }

@@ -94,5 +94,8 @@ pub record History : Type 0 where
   -- "or since new", where none clears
   pub since-new : (s : Side) (start size : ℕ) (os : List Op) → noneClears (newCache start size) os ≡ true →
       total (bankOf s (ran (newCache start size) os)) ≡ made s (newCache start size) os % 2 ^ 32
+  -- of any cache whose bank has counted nothing, whatever its penalty is: as a new one's has not
+  pub since-none : (s : Side) (c : L1Cache) (os : List Op) → total (bankOf s c) ≡ 0 → noneClears c os ≡ true →
+      total (bankOf s (ran c os)) ≡ made s c os % 2 ^ 32
   -- of the byte lanes only the byte at 6 clears, by its bit 2
   pub byte-clears : (c : L1Cache) (addr v : ℕ) → v < 256 → clearing c (writeByte addr v) ≡ (eqb addr 6 && bitSet v 2)

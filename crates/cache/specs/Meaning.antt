@@ -2,16 +2,18 @@
 --
 --   Lines b      == a bank of 256 lines, as every bank is
 --   tagAt b j    == the tag at an index
+--   isRegister offset, enableBit s v == the offset has a register; a bank's enable bit in the control register's value
 --   Meaning      == the laws, one field a sentence
 --
 -- What holds of both banks is said of a bank b, or of either side s. A load or fetch is the same law of its bank.
 use Prim.Native.Nat.{ℕ, _+_, _*_, _/_, _%_, _^_, _<_, _≤_}
 use mathlib.Core.Path.{_≡_}
-use mathlib.Core.Bool.{Bool, true, false, cond, _&&_}
+use mathlib.Core.Bool.{Bool, true, false, cond, _&&_, _||_}
 use lib.Dec.{eqb}
 use lib.ListN.{length, getD}
+use Rattle.common.specs.Bits.{bitSet}
 use Rattle.cache.specs.Bank.{indexOf, noTag, noTags, withTags, holds, accessed, dropLines, enabledTo}
-use Rattle.cache.specs.Cache.{Side, bankOf, withBanks, saturated, cacheableAt, counts, stallAfter, loaded, fetched, stored, externalWritten, linesVisited, laneOf, merged}
+use Rattle.cache.specs.Cache.{Side, iBank, dBank, bankOf, withBanks, resetOf, saturated, cacheableAt, counts, stallAfter, loaded, fetched, stored, externalWritten, linesVisited, regRead, regWritten, laneOf, merged}
 use Rattle.cache.specs.declared.Bank.{Bank}
 use Rattle.cache.specs.declared.L1Cache.{L1Cache}
 
@@ -20,6 +22,15 @@ Lines b = length (b .tags) ≡ 256
 
 abbrev pub tagAt : Bank → ℕ → ℕ
 tagAt b j = getD (b .tags) j 0
+
+-- the offsets that have a register
+abbrev pub isRegister : ℕ → Bool
+isRegister offset = eqb offset 0x00 || eqb offset 0x04 || eqb offset 0x10 || eqb offset 0x14 || eqb offset 0x18 || eqb offset 0x1C
+
+-- "0x04 has enable bits 0 (I) and 1 (D)"
+abbrev pub enableBit : Side → ℕ → Bool
+enableBit iBank v = bitSet v 0
+enableBit dBank v = bitSet v 1
 
 pub record Meaning : Type 0 where
   -- "empty is 0xFFFFFFFF, which no tag can equal": an empty line holds no address
@@ -57,9 +68,20 @@ pub record Meaning : Type 0 where
   -- "Once 256 lines have been dropped every index is empty": dropping these leaves the tags that dropping all leaves
   pub visits-enough : (s : Side) (c : L1Cache) (pa len : ℕ) → Lines (bankOf s c) →
       dropLines (linesVisited pa len) (pa / 32) (bankOf s c .tags) ≡ bankOf s (externalWritten c pa len) .tags
-  -- "Any change of an enable bit empties its bank", and where it does not change the bank stays
+  -- "others 0"
+  pub others-read : (c : L1Cache) (offset : ℕ) → isRegister offset ≡ false → regRead c offset ≡ 0
+  -- "Only 0x04 is writable"
+  pub only-control : (c : L1Cache) (offset v : ℕ) → (offset ≡ 0x04 → ⊥) → regWritten c offset v ≡ c
+  -- "Any change of an enable bit empties its bank": by a write of the register, whatever its other bits are
+  pub control-changes : (s : Side) (c : L1Cache) (v : ℕ) → (bankOf s c .enabled ≡ enableBit s v → ⊥) → bankOf s (regWritten c 0x04 v) .tags ≡ noTags
+  -- of a bank; and where the bit does not change the bank stays
   pub enable-change : (b : Bank) (on : Bool) → (b .enabled ≡ on → ⊥) → enabledTo b on .tags ≡ noTags
   pub enable-same : (b : Bank) → enabledTo b (b .enabled) ≡ b
   -- "A byte lane write is merged with the register as read": that byte is the written one, the other three stay
   pub lane-written : (w addr v : ℕ) → v < 256 → laneOf (merged w addr v) addr ≡ v
   pub lane-kept : (w addr other v : ℕ) → v < 256 → (addr % 4 ≡ other % 4 → ⊥) → laneOf (merged w addr v) other ≡ laneOf w other
+  -- "Reset empties and enables both, clears counts, keeps the penalty", and the range, whatever the banks were
+  pub reset-banks : (s : Side) (c : L1Cache) →
+      (bankOf s (resetOf c) .tags ≡ noTags) × (bankOf s (resetOf c) .enabled ≡ true) × (bankOf s (resetOf c) .hits ≡ 0) × (bankOf s (resetOf c) .misses ≡ 0)
+  pub reset-keeps : (c : L1Cache) →
+      (resetOf c .«miss_penalty» ≡ c .«miss_penalty») × (resetOf c .«ram_start» ≡ c .«ram_start») × (resetOf c .«ram_end» ≡ c .«ram_end»)

@@ -3,6 +3,7 @@ pub mod Traps
 pub mod Regions
 pub mod Numbers
 pub mod Checks
+pub mod Data
 pub mod Transfers
 pub mod Places
 pub mod Views

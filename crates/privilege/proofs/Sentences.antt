@@ -16,6 +16,7 @@ use Rattle.common.specs.declared.Refusal.the-variants.{Size, Map}
 use Rattle.memory.specs.Gate.{Open, mapGood, accessGate}
 use Rattle.memory.specs.Gate.Laws.{map-open, map-shut, size-open, size-shut, size-kept}
 use Rattle.memory.specs.Memory.{Memory}
+use Rattle.memory.specs.Memory.Laws.{over, byte-inside, put-here, put-out}
 use Rattle.mmu.specs.Exception.{regionBit}
 use Rattle.mmu.specs.declared.exception.Access.{Access}
 use Rattle.privilege.specs.Access.{legalSize, allowsOf, translatingOf}
@@ -34,6 +35,7 @@ use Rattle.privilege.specs.declared.state.InstructionMode.{InstructionMo
 use Rattle.privilege.specs.declared.state.SystemState.{SystemState}
 use Rattle.privilege.specs.declared.trap.Returned.{Returned}
 use Rattle.privilege.specs.declared.trap.Trapped.{Trapped}
+use Rattle.privilege.proofs.Data.{looked-up, stolen, big-endian, load-outside, store-outside, store-puts, debug-mode, debug-resident, view-index}
 use Rattle.privilege.proofs.Listed.{unknown-read, unknown-written, known-read, known-written, user-read, user-written, region-read, region-written}
 
 -- ---- STATUS
@@ -145,6 +147,21 @@ module _ (s : SystemState) (reg : List ℕ) where
   unfolding returned
   iret-stays h = rw h
 
+  iret-else :
+      (returned s reg .sys .pie ≡ s .pie)
+      × (returned s reg .sys .pu ≡ s .pu)
+      × (returned s reg .sys .psm ≡ s .psm)
+      × (returned s reg .sys .epc ≡ s .epc)
+      × (returned s reg .sys .cause ≡ s .cause)
+      × (returned s reg .sys .regions ≡ s .regions)
+      × (returned s reg .sys .vm ≡ s .vm)
+  unfolding returned
+  iret-else =
+      cond-holds
+      (λ (t : Returned).
+      (t .sys .pie ≡ s .pie) × (t .sys .pu ≡ s .pu) × (t .sys .psm ≡ s .psm) × (t .sys .epc ≡ s .epc) × (t .sys .cause ≡ s .cause) × (t .sys .regions ≡ s .regions) × (t .sys .vm ≡ s .vm))
+      (entersUser s) (refl, refl, refl, refl, refl, refl, refl) (refl, refl, refl, refl, refl, refl, refl)
+
 -- ---- regions
 
 module _ (g : Region) (a : ℕ) (k : Access) where
@@ -224,6 +241,7 @@ meaning-holds =
       iret-answers = iret-answers;
       iret-enters = iret-enters;
       iret-stays = iret-stays;
+      iret-else = iret-else;
       banked = banked;
       unbanked = unbanked;
       unknown-read = unknown-read;
@@ -257,4 +275,15 @@ meaning-holds =
       check-supervisor = λ m s a n k h g u. check-good m s a n k (opened m k n h g) ∙ by-supervisor m s a n k u;
       check-regions = λ m s a n k h g u t. check-good m s a n k (opened m k n h g) ∙ by-regions m s a n k (is-off s a n k t);
       check-pages = λ m s a n k h g u t. check-good m s a n k (opened m k n h g) ∙ by-pages m s a n k (is-on s a n k u t);
+      looked-up = looked-up;
+      stolen = stolen;
+      big-endian = big-endian;
+      load-outside = λ m n l i good size h e. load-outside m n good size l i h e;
+      store-outside = λ m n l good size h. store-outside m n good size l h;
+      store-puts = λ m n l v good size. store-puts m n good size l v;
+      inside-put = λ m a b h. put-here m a b ∙ ap (over b) (byte-inside m a h);
+      outside-kept = put-out;
+      debug-mode = debug-mode;
+      debug-resident = debug-resident;
+      view-index = view-index;
     }

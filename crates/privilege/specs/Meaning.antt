@@ -1,4 +1,4 @@
--- What the definitions mean, line by line: document 01's sentences of 'Traps and registers', of regions and of the check as laws.
+-- What the definitions mean, line by line: document 01's sentences of 'Traps and registers', of regions, of the check, of data and of the debugger's view as laws.
 --
 --   named            == the register numbers that stand alone
 --   isRegion sr      == the number is a region's: 0x10 to 0x2E, but for the fourth of each four
@@ -12,20 +12,27 @@ use mathlib.Core.List.{List, [], _∷_}
 use lib.Dec.{eqb, ltb, leb}
 use lib.ListN.{length, getD, set}
 use Rattle.common.specs.Bits.{bitSet}
+use Rattle.common.specs.Bytes.{bigEndian, bytesOf}
 use Rattle.common.specs.declared.Refusal.{Refusal}
 use Rattle.common.specs.declared.Refusal.the-variants.{Size, Map, Register}
 use Rattle.memory.specs.Gate.{mapGood}
-use Rattle.memory.specs.Memory.{Memory}
+use Rattle.memory.specs.Memory.{Memory, writable, byteAt, putByte, putAt, allWritable}
+use Rattle.memory.specs.declared.Content.the-variants.{Value, Outside}
 use Rattle.mmu.specs.Check.{checkEach, pagesOf}
 use Rattle.mmu.specs.Exception.{regionBit}
 use Rattle.mmu.specs.Tlb.{noEntry, noEntries}
+use Rattle.mmu.specs.Vm.{slotOf}
 use Rattle.mmu.specs.declared.exception.Access.{Access}
 use Rattle.mmu.specs.declared.exception.Exception.the-variants.{ProtectionFault}
-use Rattle.privilege.specs.Access.{legalSize, accessAnswered, fromPages, checkAccess, allowsOf}
+use Rattle.mmu.specs.declared.tlb.Slot.the-variants.{At, Nothing}
+use Rattle.mmu.specs.declared.vm.Vm.{Vm}
+use Rattle.privilege.specs.Access.{dataSize, legalSize, accessAnswered, fromPages, checkAccess, allowsOf, translatingOf}
+use Rattle.privilege.specs.Debug.{mappedTo, debugTranslated, slotView}
 use Rattle.mmu.specs.Tlb.Laws.{markDropped}
 use Rattle.privilege.specs.Region.{grantsOf, byteAllowed, fieldOf, withField}
 use Rattle.privilege.specs.Registers.{written, srRead, srWritten, vmEnabled}
-use Rattle.privilege.specs.State.{noRegion, bitIf, isShort, modeOf, statusOf, statusSet, withIe, withStatus, withEpc, withCause, withOther, withRegions, withVm}
+use Rattle.privilege.specs.State.{noRegion, bitIf, isShort, modeOf, statusOf, statusSet, withIe, withStatus, withUser, withEpc, withCause, withOther, withRegions, withVm}
+use Rattle.privilege.specs.Transfer.{physicalOf, spots, loadAt, storeAt, memoryAt}
 use Rattle.privilege.specs.Trap.{bankOf, withBank, trapped, returned, entersUser}
 use Rattle.privilege.specs.declared.region.Region.{Region}
 use Rattle.privilege.specs.declared.state.InstructionMode.{InstructionMode}
@@ -33,6 +40,8 @@ use Rattle.privilege.specs.declared.state.SystemState.{SystemState}
 use Rattle.privilege.specs.declared.registers.SrRead.the-variants as read
 use Rattle.privilege.specs.declared.registers.SrAnswer.the-variants as answer
 use Rattle.privilege.specs.declared.check.Permission.the-variants.{Allowed, Denied, Refused}
+use Rattle.privilege.specs.declared.transfer.DataRead.the-variants as loaded
+use Rattle.privilege.specs.declared.transfer.DataWritten.the-variants as stored
 
 abbrev pub named : List ℕ
 named = 0x00 ∷ 0x01 ∷ 0x02 ∷ 0x08 ∷ 0x09 ∷ 0x0A ∷ 0x40 ∷ 0x41 ∷ 0x42 ∷ 0x43 ∷ 0x44 ∷ []
@@ -89,6 +98,15 @@ pub record Meaning : Type 0 where
       (returned s reg .sys .user ≡ true) × (returned s reg .reg ≡ withBank reg (s .«other_bank»)) × (returned s reg .sys .«other_bank» ≡ bankOf reg)
   pub iret-stays : (s : SystemState) (reg : List ℕ) → entersUser s ≡ false →
       returned s reg ≡ record { sys = withIe s (s .pie); reg = reg; epc = s .epc; mode = s .psm }
+  -- and nothing else, whether it enters user mode or not
+  pub iret-else : (s : SystemState) (reg : List ℕ) →
+      (returned s reg .sys .pie ≡ s .pie)
+      × (returned s reg .sys .pu ≡ s .pu)
+      × (returned s reg .sys .psm ≡ s .psm)
+      × (returned s reg .sys .epc ≡ s .epc)
+      × (returned s reg .sys .cause ≡ s .cause)
+      × (returned s reg .sys .regions ≡ s .regions)
+      × (returned s reg .sys .vm ≡ s .vm)
   -- an exchange puts the bank into R28 to R30, and no other register moves
   pub banked : (reg b : List ℕ) (i : ℕ) → Registers reg → i < 3 → getD (withBank reg b) (28 + i) 0 ≡ getD b i 0
   pub unbanked : (reg b : List ℕ) (i : ℕ) → (i ≡ 28 → ⊥) → (i ≡ 29 → ⊥) → (i ≡ 30 → ⊥) → getD (withBank reg b) i 0 ≡ getD reg i 0
@@ -172,3 +190,25 @@ pub record Meaning : Type 0 where
   -- "User, translation on: page by page"
   pub check-pages : (m : Memory) (s : SystemState) (a n : ℕ) (k : Access) → mapGood m ≡ true → legalSize k n ≡ true → s .user ≡ true → s .vm .enabled ≡ true →
       checkAccess m s a n k ≡ fromPages s (checkEach m k (s .vm) (pagesOf a n))
+  -- ---- data: a load or store "finds each byte by looking up the TLB again"
+  pub looked-up : (s : SystemState) (va n i : ℕ) → va < 2 ^ 32 → i < n → getD (spots s va n) i 0 ≡ physicalOf s ((va + i) % 2 ^ 32)
+  -- "If the second page's fill took the first page's slot, the Rust uses physical page 0; so does the port"
+  pub stolen : (s : SystemState) (va : ℕ) → translatingOf s ≡ true → slotOf (s .vm) va ≡ Nothing → physicalOf s va ≡ va % 4096
+  -- "Memory is big-endian"
+  pub big-endian : (m : Memory) (p₀ p₁ p₂ p₃ b₀ b₁ b₂ b₃ : ℕ) → mapGood m ≡ true →
+      byteAt m p₀ ≡ Value b₀ → byteAt m p₁ ≡ Value b₁ → byteAt m p₂ ≡ Value b₂ → byteAt m p₃ ≡ Value b₃ →
+      loadAt m 4 (p₀ ∷ p₁ ∷ p₂ ∷ p₃ ∷ []) ≡ loaded.Value (bigEndian (b₀ ∷ b₁ ∷ b₂ ∷ b₃ ∷ []))
+  -- "A load or fetch with any byte outside the map answers bus error and no value"
+  pub load-outside : (m : Memory) (n : ℕ) (l : List ℕ) (i : ℕ) → mapGood m ≡ true → dataSize n ≡ true → i < length l → byteAt m (getD l i 0) ≡ Outside →
+      loadAt m n l ≡ loaded.BusError
+  -- "a store writes its inside bytes and answers bus error"
+  pub store-outside : (m : Memory) (n : ℕ) (l : List ℕ) → mapGood m ≡ true → dataSize n ≡ true → allWritable m l ≡ false → storeAt m n l ≡ stored.BusError
+  pub store-puts : (m : Memory) (n : ℕ) (l : List ℕ) (v : ℕ) → mapGood m ≡ true → dataSize n ≡ true → memoryAt m n l v ≡ putAt m l (bytesOf n v)
+  pub inside-put : (m : Memory) (a b : ℕ) → writable m a ≡ true → byteAt (putByte m a b) a ≡ Value b
+  pub outside-kept : (m : Memory) (a b : ℕ) → writable m a ≡ false → putByte m a b ≡ m
+  -- ---- "`debug_translate` looks up or walks in any mode .. and checks no permission"
+  pub debug-mode : (m : Memory) (s : SystemState) (va : ℕ) (user : Bool) → debugTranslated m (withUser s user) va ≡ debugTranslated m s va
+  pub debug-resident : (m : Memory) (s : SystemState) (va i : ℕ) → mapGood m ≡ true → slotOf (s .vm) va ≡ At i →
+      debugTranslated m s va ≡ mappedTo (getD (s .vm .tlb) i noEntry) va true
+  -- "a viewed slot's index [is] read modulo 16"
+  pub view-index : (vm : Vm) (i : ℕ) → slotView vm (i + 16) ≡ slotView vm i

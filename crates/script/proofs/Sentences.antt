@@ -11,6 +11,7 @@ use borrow.Author.Tests.{leb-false, lt-leb, eqb-false, ne-eqb}
 use Rattle.common.specs.Cases.{absurd-eq}
 use Rattle.common.specs.declared.Refusal.the-variants as refusal
 use Rattle.memory.specs.Memory.{goodMap}
+use Rattle.script.specs.Header.Laws.{good-sound, image-is}
 use Rattle.script.specs.Header.{headerLeast, headerSize, headerAt, lengthOk, countsOk, eventsSection, imageSection, sectionOk, apart, sectionsOk, decided, scriptOf}
 use Rattle.script.specs.Image.Laws.{bytes-length, bytes-getD}
 use Rattle.script.specs.Meaning.{BadHeader, BadMap, Misplaced, Overlap, BadSections, Meaning}
@@ -141,4 +142,6 @@ meaning-holds =
       good = λ s. script-ordered s .good;
       image-length = bytes-length;
       image-bytes = bytes-getD;
+      event-inside = λ s h k g e. good-sound s h g .event-inside k e;
+      image-is = λ s h g. image-is s h (good-sound s h g);
     }

@@ -12,9 +12,9 @@ use Prim.Native.Nat.{ℕ, _+_, _%_, _≤_, _<_}
 use mathlib.Core.Path.{_≡_}
 use mathlib.Core.Logic.{_↔_, _⊎_, _≢_}
 use mathlib.Core.List.{List}
-use lib.ListN.{length, getD}
+use lib.ListN.{length, getD, take, drop}
 use Rattle.common.specs.declared.Refusal.the-variants as refusal
-use Rattle.script.specs.Header.{headerLeast, headerSize, headerAt, eventsSection, imageSection, scriptOf}
+use Rattle.script.specs.Header.{headerLeast, headerSize, headerAt, eventPlace, eventsSection, imageSection, scriptOf}
 use Rattle.script.specs.Image.{bytesFrom}
 use Rattle.script.specs.declared.header.Header.{Header}
 use Rattle.script.specs.declared.header.Section.{Section}
@@ -57,3 +57,6 @@ pub record Meaning : Type 0 where
   -- "The image is the first content of the memory": as many bytes as the memory has, each the script's
   pub image-length : (s : List ℕ) (at n : ℕ) → length (bytesFrom s at n) ≡ n
   pub image-bytes : (s : List ℕ) (at n k : ℕ) → k < n → getD (bytesFrom s at n) k 0 ≡ getD s (at + k) 0
+  -- of a good script every event lies inside, and the image is the script's bytes as they stand there
+  pub event-inside : (s : List ℕ) (h : Header) (k : ℕ) → scriptOf s ≡ Good h → k < h .events → eventPlace h k + 12 ≤ length s
+  pub image-is : (s : List ℕ) (h : Header) → scriptOf s ≡ Good h → bytesFrom s (h .«image_at») (h .image) ≡ take (h .image) (drop (h .«image_at») s)
