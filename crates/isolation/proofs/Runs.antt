@@ -11,12 +11,13 @@ use Rattle.memory.specs.Memory.Laws.{same-map}
 use Rattle.mmu.specs.Opened.{Opened}
 use Rattle.mmu.specs.declared.exception.Access.the-variants.{Write}
 use Rattle.mmu.specs.declared.vm.Vm.{Vm}
+use Rattle.privilege.specs.Confined.{aligned-stays}
 use Rattle.machine.specs.declared.state.Machine.{Machine}
-use Rattle.isolation.specs.Premises.{Op, AllAligned, InUserMode, Sixteen, Alike, Sealed}
-use Rattle.isolation.specs.Demand3.{Answer, resultOf, ranOps, Isolated, Demand3, TablesShut, Integrity, Confidentiality}
+use Rattle.isolation.specs.Premises.{Op, AllAligned, AllInPage, InUserMode, Sixteen, Alike, Sealed}
+use Rattle.isolation.specs.Demand3.{Answer, resultOf, ranOps, Isolated, InPages, Demand3, TablesShut, Integrity, Confidentiality}
 use Rattle.isolation.proofs.Steps.{held}
 
-isolated : (hidden : ℕ → Bool) (os : List Op) (M : Machine) (m m′ : Memory) → AllAligned os → InUserMode M → Sixteen M → Alike hidden m m′ → Sealed hidden m (M .sys .vm)
+isolated : (hidden : ℕ → Bool) (os : List Op) (M : Machine) (m m′ : Memory) → AllInPage os → InUserMode M → Sixteen M → Alike hidden m m′ → Sealed hidden m (M .sys .vm)
     → Isolated hidden m m′ (ranOps os M m) (ranOps os M m′)
 unfolding ranOps
 isolated hidden [] M m m′ al run slots alike here =
@@ -35,9 +36,18 @@ isolated hidden (o ∷ os) M m m′ al run slots alike here =
       own′ = λ a h. rest .own′ a h ∙ k .own′ a h;
     })
 
+pub in-pages : InPages
+unfolding InPages
+in-pages = isolated
+
+-- aligned accesses stay in their pages
+all-stay : (os : List Op) → AllAligned os → AllInPage os
+all-stay [] al = tt
+all-stay (o ∷ os) al = ((al .0 .0, aligned-stays (o .kind) (o .addr) (o .size) (al .0 .1)), all-stay os (al .1))
+
 pub demand3 : Demand3
 unfolding Demand3
-demand3 = isolated
+demand3 hidden os M m m′ al = isolated hidden os M m m′ (all-stay os al)
 
 -- ---- in the words of the question
 
@@ -45,7 +55,7 @@ demand3 = isolated
 nothing-hidden : (m : Memory) (vm : Vm) → TablesShut m vm → Sealed (λ a. false) m vm
 nothing-hidden m vm shut = record { tables = λ a h. absurd-eq (cc); pages = λ a h. absurd-eq (cc); unwritable = shut }
 
-kept-byte : (os : List Op) (M : Machine) (m : Memory) → AllAligned os → InUserMode M → Sixteen M → TablesShut m (M .sys .vm)
+kept-byte : (os : List Op) (M : Machine) (m : Memory) → AllInPage os → InUserMode M → Sixteen M → TablesShut m (M .sys .vm)
     → (b : ℕ) → ¬ Opened m (M .sys .vm) Write b → byteAt (ranOps os M m .memory) b ≡ byteAt m b
 unfolding ranOps
 kept-byte [] M m al run slots shut b n = refl
@@ -56,12 +66,12 @@ kept-byte (o ∷ os) M m al run slots shut b n =
 
 pub integrity : Integrity
 unfolding Integrity
-integrity = kept-byte
+integrity os M m al = kept-byte os M m (all-stay os al)
 
 pub confidentiality : Confidentiality
 unfolding Confidentiality
 confidentiality os M m m′ b al run slots shut map bytes table page =
-    isolated (λ a. eqb a b) os M m m′ al run slots
+    isolated (λ a. eqb a b) os M m m′ (all-stay os al) run slots
     (record { map = map; bytes = λ a h. bytes a (eqb-false a b h) })
     (record {
       tables = λ a h t. table (rw (eqb-true a b h) at t);

@@ -1,5 +1,5 @@
 -- One access of two runs. Assumes nothing.
-use Prim.Native.Nat.{ℕ, _%_, _^_, _<_}
+use Prim.Native.Nat.{ℕ}
 use mathlib.Core.Path.{_≡_, refl, sym, ap, _∙_}
 use mathlib.Core.Bool.{Bool, true, false}
 use mathlib.Core.List.{List}
@@ -18,7 +18,7 @@ use Rattle.mmu.specs.declared.exception.Access.the-variants.{Read, Write, Fetch
 use Rattle.mmu.specs.declared.exception.Exception.{Exception}
 use Rattle.mmu.specs.declared.vm.Vm.{Vm}
 use Rattle.privilege.specs.Access.{checkAccess}
-use Rattle.privilege.specs.Confined.{Running, Refills, tables-check, check-refills, aligned-open}
+use Rattle.privilege.specs.Confined.{Running, Refills, tables-check, check-refills, page-open}
 use Rattle.privilege.specs.Transfer.{spots, memoryAfter}
 use Rattle.privilege.specs.Transfer.Laws.{load-same, store-same, store-map, store-both, store-other}
 use Rattle.privilege.specs.declared.check.AccessChecked.{AccessChecked}
@@ -32,7 +32,7 @@ use Rattle.machine.specs.Access.Laws.{access-refused, access-denied, access-rea
 use Rattle.machine.specs.State.{withSys, withCache}
 use Rattle.machine.specs.declared.access.Accessed.{Accessed}
 use Rattle.machine.specs.declared.state.Machine.{Machine}
-use Rattle.isolation.specs.Premises.{Op, Aligned, InUserMode, Sixteen, Alike, Sealed}
+use Rattle.isolation.specs.Premises.{Op, InPage, InUserMode, Sixteen, Alike, Sealed}
 use Rattle.isolation.specs.Demand3.{resultOf, answerOf, Keeps}
 
 -- what one access of two runs leaves, and that the next one may follow
@@ -84,7 +84,7 @@ module _ (hidden : ℕ → Bool) (M : Machine) (m m′ : Memory) (run : InUserMo
   agree : TablesAgree m m′ (M .sys .vm .ptbr)
   agree a t = alike .bytes a (not-hidden (hidden a) (λ h. here .tables a h t))
 
-  module _ (o : Op) (al : Aligned o) where
+  module _ (o : Op) (al : InPage o) where
     abbrev c : AccessChecked
     c = checkAccess m (M .sys) (o .addr) (o .size) (o .kind)
 
@@ -141,7 +141,7 @@ module _ (hidden : ℕ → Bool) (M : Machine) (m m′ : Memory) (run : InUserMo
 
     module _ (p : c .permission ≡ Allowed) where
       open-at : Each (λ b. Opened m (M .sys .vm) (o .kind) b) at
-      open-at = aligned-open m (M .sys) (o .addr) (o .size) (o .kind) run slots (al .0) (al .1) p
+      open-at = page-open m (M .sys) (o .addr) (o .size) (o .kind) run slots (al .0) (al .1) p
 
       seen-alike : Each (λ b. byteAt m b ≡ byteAt m′ b) at
       seen-alike =
@@ -164,7 +164,7 @@ module _ (hidden : ℕ → Bool) (M : Machine) (m m′ : Memory) (run : InUserMo
 -- ---- a store
 
 module _ (hidden : ℕ → Bool) (M : Machine) (m m′ : Memory) (run : InUserMode M) (slots : Sixteen M) (alike : Alike hidden m m′) (here : Sealed hidden m (M .sys .vm))
-    (a n v : ℕ) (al : (a < 2 ^ 32) × (a % n ≡ 0)) (p : checkAccess m (M .sys) a n Write .permission ≡ Allowed) where
+    (a n v : ℕ) (al : InPage (record { kind = Write; addr = a; size = n; value = v })) (p : checkAccess m (M .sys) a n Write .permission ≡ Allowed) where
   abbrev store : Op
   store = record { kind = Write; addr = a; size = n; value = v }
 
@@ -211,13 +211,13 @@ module _ (hidden : ℕ → Bool) (M : Machine) (m m′ : Memory) (run : InUserMo
 -- ---- any access
 
 allowed-held : (hidden : ℕ → Bool) (M : Machine) (m m′ : Memory) → InUserMode M → Sixteen M → Alike hidden m m′ → Sealed hidden m (M .sys .vm) → (k : Access) (a n v : ℕ)
-    → (a < 2 ^ 32) × (a % n ≡ 0) → checkAccess m (M .sys) a n k .permission ≡ Allowed
+    → InPage (record { kind = k; addr = a; size = n; value = v }) → checkAccess m (M .sys) a n k .permission ≡ Allowed
     → Held hidden (M .sys .vm) m m′ (accessOf k M m a n v) (accessOf k M m′ a n v)
 allowed-held hidden M m m′ run slots alike here Read a n v al p = held-read hidden M m m′ run slots alike here (record { kind = Read; addr = a; size = n; value = v }) al p refl
 allowed-held hidden M m m′ run slots alike here Fetch a n v al p = held-read hidden M m m′ run slots alike here (record { kind = Fetch; addr = a; size = n; value = v }) al p refl
 allowed-held hidden M m m′ run slots alike here Write a n v al p = held-written hidden M m m′ run slots alike here a n v al p
 
-pub held : (hidden : ℕ → Bool) (M : Machine) (m m′ : Memory) → InUserMode M → Sixteen M → Alike hidden m m′ → Sealed hidden m (M .sys .vm) → (o : Op) → Aligned o
+pub held : (hidden : ℕ → Bool) (M : Machine) (m m′ : Memory) → InUserMode M → Sixteen M → Alike hidden m m′ → Sealed hidden m (M .sys .vm) → (o : Op) → InPage o
     → Held hidden (M .sys .vm) m m′ (resultOf o M m) (resultOf o M m′)
 held hidden M m m′ run slots alike here o al = by-permission (checkAccess m (M .sys) (o .addr) (o .size) (o .kind) .permission) refl
   where

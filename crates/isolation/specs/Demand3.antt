@@ -5,7 +5,8 @@
 --   Keeps hidden m x      == the hidden bytes of x are those of m
 --   Isolated              == "both runs give the same values, bus errors, exceptions, stalls and walk counts, reach the same TLB, cache and other
 --                            bytes, and each keeps its own hidden bytes"; all other state is the same too
---   Demand3               == the demand
+--   InPages               == the same of accesses that stay in their pages, aligned or not
+--   Demand3               == the demand, which follows from it
 --   Integrity             == a user's run changes no byte outside the pages that are open to it for writing
 --   Confidentiality       == a user's run shows nothing of a byte that lies in no page open to it and in no table
 use Prim.Native.Nat.{ℕ}
@@ -23,7 +24,7 @@ use Rattle.mmu.specs.declared.vm.Vm.{Vm}
 use Rattle.machine.specs.Access.{Result, accessOf}
 use Rattle.machine.specs.declared.access.Outcome.{Outcome}
 use Rattle.machine.specs.declared.state.Machine.{Machine}
-use Rattle.isolation.specs.Premises.{Op, AllAligned, InUserMode, Sixteen, Alike, Sealed}
+use Rattle.isolation.specs.Premises.{Op, AllAligned, AllInPage, InUserMode, Sixteen, Alike, Sealed}
 
 pub record Answer : Type 0 where
   pub outcome : Outcome
@@ -59,6 +60,12 @@ pub record Isolated (hidden : ℕ → Bool) (m m′ : Memory) (x x′ : Ran) : T
   pub alike : Alike hidden (x .memory) (x′ .memory)
   pub own : Keeps hidden m (x .memory)
   pub own′ : Keeps hidden m′ (x′ .memory)
+
+unfoldable pub InPages : Type 0
+InPages =
+    (hidden : ℕ → Bool) (os : List Op) (M : Machine) (m m′ : Memory)
+    → AllInPage os → InUserMode M → Sixteen M → Alike hidden m m′ → Sealed hidden m (M .sys .vm)
+    → Isolated hidden m m′ (ranOps os M m) (ranOps os M m′)
 
 unfoldable pub Demand3 : Type 0
 Demand3 =

@@ -1,2 +1,3 @@
 pub mod Premises
 pub mod Demand3
+pub mod Events

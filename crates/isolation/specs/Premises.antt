@@ -1,6 +1,7 @@
 -- Demand 3, its premises: what a firmware writer has to see to.
 --
 --   Op, Aligned o         == a load, store or fetch; "each address a multiple of its size"
+--   InPage o              == an access that stays in its page: an aligned one does, and many others
 --   InUserMode M          == "in user mode with translation on"
 --   Sixteen M             == the TLB has its sixteen slots, as every machine's has
 --   hidden a              == the byte at physical address a is hidden: any choice of bytes
@@ -9,8 +10,9 @@
 --                            to users. No table byte lies in a page so opened for user writing."
 --
 -- What a table byte is, what opens a page to users and for which access, the MMU's `specs/Opened.antt` says. A hidden byte may lie outside
--- the map, where there is nothing to hide. The third premise is asked of table bytes inside the map alone: a store cannot change another.
-use Prim.Native.Nat.{ℕ, _%_, _^_, _<_}
+-- the map, where there is nothing to hide. A choice of bytes is decided address by address, and that loses nothing: outside any set at all two
+-- memories that are alike differ at addresses that comparing bytes decides, all of them in the set; that its other bytes stay is `Integrity`. The third premise is asked of table bytes inside the map alone: a store cannot change another.
+use Prim.Native.Nat.{ℕ, _+_, _%_, _^_, _≤_, _<_}
 use mathlib.Core.Path.{_≡_}
 use mathlib.Core.Bool.{Bool, true, false}
 use mathlib.Core.List.{List, [], _∷_}
@@ -23,6 +25,7 @@ use Rattle.mmu.specs.Opened.{TableByte, Opened}
 use Rattle.mmu.specs.declared.exception.Access.{Access}
 use Rattle.mmu.specs.declared.exception.Access.the-variants.{Write}
 use Rattle.mmu.specs.declared.vm.Vm.{Vm}
+use Rattle.privilege.specs.Access.{legalSize}
 use Rattle.privilege.specs.Confined.{Running}
 use Rattle.machine.specs.declared.state.Machine.{Machine}
 
@@ -39,6 +42,14 @@ Aligned o = (o .addr < 2 ^ 32) × (o .addr % o .size ≡ 0)
 abbrev pub AllAligned : List Op → Type 0
 AllAligned [] = Unit {0}
 AllAligned (o ∷ os) = Aligned o × AllAligned os
+
+-- of an access whose size is legal; any other is refused
+abbrev pub InPage : Op → Type 0
+InPage o = (o .addr < 2 ^ 32) × (legalSize (o .kind) (o .size) ≡ true → o .addr % 4096 + o .size ≤ 4096)
+
+abbrev pub AllInPage : List Op → Type 0
+AllInPage [] = Unit {0}
+AllInPage (o ∷ os) = InPage o × AllInPage os
 
 abbrev pub InUserMode : Machine → Type 0
 InUserMode M = Running (M .sys)

@@ -1,11 +1,22 @@
 // Isolation: what the port is for. A user's accesses neither show nor change what is sealed off from them.
 //
 // Nothing here is run: each function's contract is a theorem about the machine's combined access.
-ghost use Rattle.isolation.specs.Demand3.{Demand3, Integrity, Confidentiality};
+ghost use Rattle.isolation.specs.Events.{InRuns};
+ghost use Rattle.isolation.specs.Demand3.{InPages, Demand3, Integrity, Confidentiality};
 
 // Demand 3, for accesses of any number, at every address and size, refused ones included.
 pub fn demand_three()
     ensures { λ _. ⌜ Demand3 ⌝ }
+{}
+
+// The same for accesses that stay in their pages, aligned or not.
+pub fn in_pages()
+    ensures { λ _. ⌜ InPages ⌝ }
+{}
+
+// Demand 3 for the lines that two runs of a script's events print.
+pub fn in_runs()
+    ensures { λ _. ⌜ InRuns ⌝ }
 {}
 
 // What the pit task cannot write, it cannot change.

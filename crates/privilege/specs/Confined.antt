@@ -4,7 +4,8 @@
 --   Refills m s t     == what a check leaves of the state: all but the TLB, which only leaves of m refill
 --   tables-check      == a check depends on the map and on the bytes of the page tables alone
 --   check-refills     == a check keeps all but the TLB
---   aligned-open      == the bytes of an allowed aligned access lie in a page that is open to users for it
+--   aligned-stays     == an aligned access of a legal size stays in its page
+--   page-open         == the bytes of an allowed access that stays in its page lie in a page that is open to users for it
 use Prim.Native.Nat.{ℕ, zero, suc, _+_, _/_, _%_, _^_, _≤_, _<_}
 use mathlib.Core.Path.{_≡_, refl, sym, ap, _∙_}
 use mathlib.Core.Bool.{Bool, true, false, cond, _||_}
@@ -76,7 +77,7 @@ check-refills m s a n k h =
     RefillsBy : AccessChecked → Type 0
     RefillsBy c = Refills m s (c .sys)
 
--- ---- where an aligned access reaches
+-- ---- where an access that stays in its page reaches
 
 or-cases : (a b : Bool) → (a || b) ≡ true → (a ≡ true) ⊎ (b ≡ true)
 or-cases true b p = inl refl
@@ -148,13 +149,23 @@ through m s a n k run =
     Passes : AccessChecked → Type 0
     Passes c = c .permission ≡ Allowed → Through m s a n k c
 
--- the bytes of an allowed aligned access
-pub aligned-open : (m : Memory) (s : SystemState) (a n : ℕ) (k : Access) → Running s → length (s .vm .tlb) ≡ 16 → a < 2 ^ 32 → a % n ≡ 0
+some : (k : Access) (n : ℕ) → legalSize k n ≡ true → 0 < n
+some k n h = sized (legal-sized k n h)
+  where
+    sized : Sized n → 0 < n
+    sized = ⊎-elim (λ e. omega arith) (⊎-elim (λ e. omega arith) (λ e. omega arith))
+
+pub aligned-stays : (k : Access) (a n : ℕ) → a % n ≡ 0 → legalSize k n ≡ true → a % 4096 + n ≤ 4096
+aligned-stays k a n al h = in-page a n (legal-sized k n h) al .1
+
+-- the bytes of an allowed access
+pub page-open : (m : Memory) (s : SystemState) (a n : ℕ) (k : Access) → Running s → length (s .vm .tlb) ≡ 16 → a < 2 ^ 32
+    → (legalSize k n ≡ true → a % 4096 + n ≤ 4096)
     → checkAccess m s a n k .permission ≡ Allowed → Each (λ b. Opened m (s .vm) k b) (spots (checkAccess m s a n k .sys) a n)
 unfolding spots translatingOf
-aligned-open m s a n k run slots h al p =
+page-open m s a n k run slots h stays p =
     let thr = through m s a n k run p in
-    let fits = in-page a n (legal-sized k n (thr .legal)) al in
+    let fits : (0 < n) × (a % 4096 + n ≤ 4096) = (some k n (thr .legal), stays (thr .legal)) in
     let one : pagesOf a n ≡ a ∷ [] = pages-one a n h (fits .0) (fits .1) in
     let page = each-one m k (s .vm) a (rw one at (thr .pages)) in
     let pass = passed m (s .vm) k a h slots (page .0) in

@@ -1,15 +1,17 @@
 -- The laws of a run. Assumes nothing.
 --
 --   over-lines     == a run has a line for each event
+--   over-append    == a run goes on where another ended
 --   run-lines      == so a run of n events of a script has n lines
 --   listing-whole  == every script's listing fits into `LISTING_MAX` bytes
 --   run-none, run-next == a run of no event, and of one event more: the event's step, and the run on what that left
 use Prim.Native.Nat.{ℕ, zero, suc, _+_, _≤_}
 use mathlib.Core.Path.{_≡_, refl, ap, _∙_}
-use mathlib.Core.List.{List, [], _∷_}
+use mathlib.Core.List.{List, [], _∷_, _++_}
 use lib.ListN.{length}
 use Rattle.common.specs.Refusal.{refusalNumber}
 use Rattle.listing.specs.Listing.Laws.{listing-fits, refused-fits}
+use Rattle.listing.specs.declared.Line.{Line}
 use Rattle.memory.specs.Memory.{Memory}
 use Rattle.script.specs.Event.{eventAt, eventsFrom, events-none, events-next}
 use Rattle.script.specs.Header.{scriptOf}
@@ -34,6 +36,14 @@ pub over-lines : (es : List Event) (M : Machine) (m : Memory) → length (runOve
 unfolding runOver
 over-lines [] M m = refl
 over-lines (e ∷ es) M m = ap suc (over-lines es _ _)
+
+pub over-append : (xs ys : List Event) (M : Machine) (m : Memory)
+    → runOver (xs ++ ys) M m .lines ≡ runOver xs M m .lines ++ runOver ys (runOver xs M m .machine) (runOver xs M m .memory) .lines
+unfolding runOver
+over-append [] ys M m = refl
+over-append (e ∷ xs) ys M m =
+    let s = stepOf M m e in
+    ap (λ (l : List Line). s .stepped .line ∷ l) (over-append xs ys (s .stepped .machine) (s .memory))
 
 events-length : (n : ℕ) (s : List ℕ) (at : ℕ) → length (eventsFrom n s at) ≡ n
 events-length zero s at = ap length (events-none s at)
