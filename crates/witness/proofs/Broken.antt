@@ -19,9 +19,9 @@ use Rattle.isolation.specs.Demand3.{Answer, ranOps, Isolated, Demand3}
 use Rattle.isolation.proofs.Runs.{demand3}
 use Rattle.witness.specs.Laid.{Word, laid}
 use Rattle.witness.specs.Scene.{onPage, tlbOf, userVm, userState, machineWith, load}
-use Rattle.witness.proofs.Layouts.{one-resident, none-resident, Layout, layout, unhidden-tables, unhidden-pages, shut-tables, alike}
+use Rattle.witness.proofs.Layouts.{fits, one-resident, none-resident, Layout, layout, unhidden-tables, unhidden-pages, shut-tables, alike}
 use Rattle.witness.proofs.Computed.{answerTo, ran-one, ran-two, computed}
-use Rattle.witness.specs.Counterexamples.{Premise, alignment, userMode, translation, slots, likeness, unhiddenTables, unhiddenPages, shutTables, Holds, Counterexample, readable, supervisor, untranslated, onePage, twoLeaves, rootLeaf, ownLeaf, Needed}
+use Rattle.witness.specs.Counterexamples.{Premise, alignment, userMode, translation, slots, likeness, unhiddenTables, unhiddenPages, shutTables, Holds, Counterexample, readable, supervisor, untranslated, onePage, twoLeaves, fourPages, rootLeaf, rootPage, ownLeaf, writableTable, Needed}
 
 -- the demand, its premises by name
 together : (hidden : ℕ → Bool) (os : List Op) (M : Machine) (m m′ : Memory) → ((v : Premise) → Holds v hidden os M m m′) → Isolated hidden m m′ (ranOps os M m) (ranOps os M m′)
@@ -50,7 +50,8 @@ left-out : {A : Type 0} {w : Premise} → w ≢ w → A
 left-out n = absurd (n refl)
 
 -- word i of page h is 0 in one memory and 1 in the other, whose tables lie in pages q and t and open page f alone
-module _ (w : Premise) (p q t f h i : ℕ) (l : List Word) (s : SystemState) (here : Layout (laid p ((i, 0) ∷ l)) (s .vm) q t f) (os : List Op) where
+module _ (w : Premise) (p q t f h i : ℕ) (l : List Word) (s : SystemState) (here : Layout (laid p ((i, 0) ∷ l)) (s .vm) q t f)
+    (there : Layout (laid p ((i, 1) ∷ l)) (s .vm) q t f) (os : List Op) where
   -- what each premise comes to
   abbrev Shown : Premise → Type 0
   Shown alignment = AllAligned os
@@ -62,15 +63,16 @@ module _ (w : Premise) (p q t f h i : ℕ) (l : List Word) (s : SystemState) (he
   Shown unhiddenPages = eqb h f ≡ false
   Shown shutTables = (eqb f q ≡ false) × (eqb f t ≡ false)
 
-  holds : (v : Premise) → Shown v → Holds v (onPage h) os (machineWith p s) (laid p ((i, 0) ∷ l)) (laid p ((i, 1) ∷ l))
-  holds alignment g = g
-  holds userMode g = g
-  holds translation g = g
-  holds slots g = g
-  holds likeness g = alike p i 0 1 h l g
-  holds unhiddenTables g = unhidden-tables here h (g .0) (g .1)
-  holds unhiddenPages g = unhidden-pages here h g
-  holds shutTables g = shut-tables here (g .0) (g .1)
+  holds : (x y : ℕ) → Layout (laid p ((i, x) ∷ l)) (s .vm) q t f → (v : Premise) → Shown v
+      → Holds v (onPage h) os (machineWith p s) (laid p ((i, x) ∷ l)) (laid p ((i, y) ∷ l))
+  holds x y at alignment g = g
+  holds x y at userMode g = g
+  holds x y at translation g = g
+  holds x y at slots g = g
+  holds x y at likeness g = alike p i x y h l g
+  holds x y at unhiddenTables g = unhidden-tables at h (g .0) (g .1)
+  holds x y at unhiddenPages g = unhidden-pages at h g
+  holds x y at shutTables g = shut-tables at (g .0) (g .1)
 
   abbrev Unless : Premise → Type 0
   Unless v = v ≢ w → Shown v
@@ -79,7 +81,7 @@ module _ (w : Premise) (p q t f h i : ℕ) (l : List Word) (s : SystemState) (he
       → (x x′ : List Answer) → (ranOps os (machineWith p s) (laid p ((i, 0) ∷ l)) .answers ≡ x) × (ranOps os (machineWith p s) (laid p ((i, 1) ∷ l)) .answers ≡ x′) → outcomes x ≢ outcomes x′
       → Counterexample w (onPage h) os (machineWith p s) (laid p ((i, 0) ∷ l)) (laid p ((i, 1) ∷ l)) x x′
   counter aligned user enabled sixteen like tables pages shut x x′ runs apart =
-      record { others = λ v n. holds v (by-name v n); answers = runs .0; answers′ = runs .1; differ = λ e. apart (ap outcomes e) }
+      record { others = λ v n. (holds 0 1 here v (by-name v n), holds 1 0 there v (by-name v n)); answers = runs .0; answers′ = runs .1; differ = λ e. apart (ap outcomes e) }
     where
       by-name : (v : Premise) → Unless v
       by-name alignment = aligned
@@ -97,12 +99,27 @@ aligned-load : AllAligned (load 4 0 ∷ [])
 aligned-load = ((lit< tt, refl), tt)
 
 -- page 0 is open to no one, and PTBR's page is outside the map
-one-page-shut : (s : SystemState) → s .vm .ptbr ≡ 4096 → s .vm .tlb ≡ tlbOf noEntry → Layout (onePage 0) (s .vm) 1 1 2
-one-page-shut s root empty = layout 1 1 1 2 ((0, 0) ∷ []) (s .vm) (computed .one-page 2) root (rw empty (none-resident 2))
+one-page-shut : (x : ℕ) (s : SystemState) → s .vm .ptbr ≡ 4096 → s .vm .tlb ≡ tlbOf noEntry → Layout (onePage x) (s .vm) 1 1 2
+one-page-shut x s root empty = layout 1 1 1 2 ((0, x) ∷ []) (s .vm) (computed .one-page 2 x) root (rw empty (none-resident 2))
 
 -- page 0 is open
-one-page-open : Layout (onePage 0) (userVm 1 (tlbOf (readable 0))) 1 1 0
-one-page-open = layout 1 1 1 0 ((0, 0) ∷ []) (userVm 1 (tlbOf (readable 0))) (computed .one-page 0) refl (one-resident 0 (readable 0) (λ v. refl))
+one-page-open : (x : ℕ) → Layout (onePage x) (userVm 1 (tlbOf (readable 0))) 1 1 0
+one-page-open x = layout 1 1 1 0 ((0, x) ∷ []) (userVm 1 (tlbOf (readable 0))) (computed .one-page 0 x) refl (one-resident 0 (readable 0) (λ v. refl))
+
+-- page 3 is open, by its leaves and by a TLB entry, or by its leaves alone
+two-leaves-open : (x : ℕ) → Layout (fourPages 1023 x) (userVm 1 (tlbOf (readable 3))) 1 2 3
+two-leaves-open x =
+    layout 4 1 2 3 ((1023, x) ∷ twoLeaves) (userVm 1 (tlbOf (readable 3))) (computed .four-pages x .1) refl (one-resident 3 (readable 3) (λ v. refl))
+
+two-leaves-empty : (x : ℕ) → Layout (fourPages 0 x) (userVm 1 []) 1 2 3
+two-leaves-empty x = layout 4 1 2 3 ((0, x) ∷ twoLeaves) (userVm 1 []) (computed .four-pages x .0) refl (λ i v. absurd-eq (cc))
+
+-- page 1 is open, if the root's word leads anywhere
+root-page : (x : ℕ) → fits 0 0 1 ((0, x) ∷ rootLeaf) ≡ true → Layout (rootPage x) (userVm 0 (tlbOf noEntry)) 0 0 1
+root-page x ok = layout 2 0 0 1 ((0, x) ∷ rootLeaf) (userVm 0 (tlbOf noEntry)) ok refl (none-resident 1)
+
+own-leaf-open : (x : ℕ) → Layout (writableTable x) (userVm 0 (tlbOf noEntry)) 0 1 1
+own-leaf-open x = layout 3 0 1 1 ((2048, x) ∷ ownLeaf) (userVm 0 (tlbOf noEntry)) (computed .own-leaf x) refl (none-resident 1)
 
 pub needed : Needed
 unfolding outcomes
@@ -111,38 +128,38 @@ needed =
       together = together;
       unaligned =
           counter alignment 4 1 2 3 0 1023 twoLeaves (userState 1 (tlbOf (readable 3)))
-          (layout 4 1 2 3 ((1023, 0) ∷ twoLeaves) (userVm 1 (tlbOf (readable 3))) (computed .four-pages .1) refl (one-resident 3 (readable 3) (λ v. refl))) _
+          (two-leaves-open 0) (two-leaves-open 1) _
           left-out (λ n. refl) (λ n. refl) (λ n. refl) (λ n. refl) (λ n. (refl, refl)) (λ n. refl) (λ n. (refl, refl))
           _ _ (one-each _ _ _ _ _ _ (computed .unaligned)) (λ e. absurd-eq (cc));
       privileged =
-          counter userMode 1 1 1 2 0 0 [] supervisor (one-page-shut supervisor refl refl) _
+          counter userMode 1 1 1 2 0 0 [] supervisor (one-page-shut 0 supervisor refl refl) (one-page-shut 1 supervisor refl refl) _
           (λ n. aligned-load) left-out (λ n. refl) (λ n. refl) (λ n. refl) (λ n. (refl, refl)) (λ n. refl) (λ n. (refl, refl))
           _ _ (one-each _ _ _ _ _ _ (computed .privileged)) (λ e. absurd-eq (cc));
       untabled =
-          counter translation 1 1 1 2 0 0 [] untranslated (one-page-shut untranslated refl refl) _
+          counter translation 1 1 1 2 0 0 [] untranslated (one-page-shut 0 untranslated refl refl) (one-page-shut 1 untranslated refl refl) _
           (λ n. aligned-load) (λ n. refl) left-out (λ n. refl) (λ n. refl) (λ n. (refl, refl)) (λ n. refl) (λ n. (refl, refl))
           _ _ (one-each _ _ _ _ _ _ (computed .untabled)) (λ e. absurd-eq (cc));
       slotless =
           counter slots 4 1 2 3 0 0 twoLeaves (userState 1 [])
-          (layout 4 1 2 3 ((0, 0) ∷ twoLeaves) (userVm 1 []) (computed .four-pages .0) refl (λ i v. absurd-eq (cc))) _
+          (two-leaves-empty 0) (two-leaves-empty 1) _
           (λ n. aligned-load) (λ n. refl) (λ n. refl) left-out (λ n. refl) (λ n. (refl, refl)) (λ n. refl) (λ n. (refl, refl))
           _ _ (one-each _ _ _ _ _ _ (computed .slotless)) (λ e. absurd-eq (cc));
       unlike =
-          counter likeness 1 1 1 0 2 0 [] (userState 1 (tlbOf (readable 0))) one-page-open _
+          counter likeness 1 1 1 0 2 0 [] (userState 1 (tlbOf (readable 0))) (one-page-open 0) (one-page-open 1) _
           (λ n. aligned-load) (λ n. refl) (λ n. refl) (λ n. refl) left-out (λ n. (refl, refl)) (λ n. refl) (λ n. (refl, refl))
           _ _ (one-each _ _ _ _ _ _ (computed .open-page)) (λ e. absurd-eq (cc));
       hidden-table =
-          counter unhiddenTables 1 0 1 2 0 0 rootLeaf (userState 0 (tlbOf noEntry))
-          (layout 1 0 1 2 ((0, 0) ∷ rootLeaf) (userVm 0 (tlbOf noEntry)) (computed .root-page) refl (none-resident 2)) _
+          counter unhiddenTables 2 0 0 1 0 0 rootLeaf (userState 0 (tlbOf noEntry))
+          (root-page 0 (computed .root-page .0)) (root-page 1 (computed .root-page .1)) _
           (λ n. ((lit< tt, refl), tt)) (λ n. refl) (λ n. refl) (λ n. refl) (λ n. refl) left-out (λ n. refl) (λ n. (refl, refl))
           _ _ (one-each _ _ _ _ _ _ (computed .hidden-table)) (λ e. absurd-eq (cc));
       hidden-open =
-          counter unhiddenPages 1 1 1 0 0 0 [] (userState 1 (tlbOf (readable 0))) one-page-open _
+          counter unhiddenPages 1 1 1 0 0 0 [] (userState 1 (tlbOf (readable 0))) (one-page-open 0) (one-page-open 1) _
           (λ n. aligned-load) (λ n. refl) (λ n. refl) (λ n. refl) (λ n. refl) (λ n. (refl, refl)) left-out (λ n. (refl, refl))
           _ _ (one-each _ _ _ _ _ _ (computed .open-page)) (λ e. absurd-eq (cc));
       writable-table =
           counter shutTables 3 0 1 1 2 2048 ownLeaf (userState 0 (tlbOf noEntry))
-          (layout 3 0 1 1 ((2048, 0) ∷ ownLeaf) (userVm 0 (tlbOf noEntry)) (computed .own-leaf) refl (none-resident 1)) _
+          (own-leaf-open 0) (own-leaf-open 1) _
           (λ n. ((lit< tt, refl), ((lit< tt, refl), tt))) (λ n. refl) (λ n. refl) (λ n. refl) (λ n. refl) (λ n. (refl, refl)) (λ n. refl) left-out
           _ _ (ran-two _ _ _ _ _ _ _ _ (computed .table-stored 0) (computed .leaf-used .0), ran-two _ _ _ _ _ _ _ _ (computed .table-stored 1) (computed .leaf-used .1))
           (λ e. absurd-eq (cc));

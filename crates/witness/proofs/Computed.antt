@@ -88,17 +88,17 @@ pub record Computed : Type 0 where
   pub stores : (x : ℕ) → resultOf (store 4 4 0xCAFE) machine (memory x) ≡ left (walked 4 2) (written x) (answer (Value 0) 0 2)
   pub loads-back : (x : ℕ) → answerTo (load 4 4) (walked 4 2) (written x) ≡ answer (Value 0xCAFE) 8 0
   -- the counterexamples' memories
-  pub one-page : (f : ℕ) → fits 1 1 f ((0, 0) ∷ []) ≡ true
-  pub four-pages : (fits 1 2 3 ((0, 0) ∷ twoLeaves) ≡ true) × (fits 1 2 3 ((1023, 0) ∷ twoLeaves) ≡ true)
-  pub root-page : fits 0 1 2 ((0, 0) ∷ rootLeaf) ≡ true
-  pub own-leaf : fits 0 1 1 ((2048, 0) ∷ ownLeaf) ≡ true
+  pub one-page : (f x : ℕ) → fits 1 1 f ((0, x) ∷ []) ≡ true
+  pub four-pages : (x : ℕ) → (fits 1 2 3 ((0, x) ∷ twoLeaves) ≡ true) × (fits 1 2 3 ((1023, x) ∷ twoLeaves) ≡ true)
+  pub root-page : (fits 0 0 1 ((0, 0) ∷ rootLeaf) ≡ true) × (fits 0 0 1 ((0, 1) ∷ rootLeaf) ≡ true)
+  pub own-leaf : (x : ℕ) → fits 0 1 1 ((2048, x) ∷ ownLeaf) ≡ true
   -- and their accesses
   pub unaligned : Both (load 2 0xFFF) (machineWith 4 (userState 1 (tlbOf (readable 3)))) (fourPages 1023) (answer (Value 0x000) 8 2) (answer (Value 0x100) 8 2)
   pub privileged : Both (load 4 0) (machineWith 1 supervisor) onePage (answer (Value 0) 8 0) (answer (Value 1) 8 0)
   pub untabled : Both (load 4 0) (machineWith 1 untranslated) onePage (answer (Value 0) 8 0) (answer (Value 1) 8 0)
   pub slotless : Both (load 4 0) (machineWith 4 (userState 1 [])) (fourPages 0) (answer (Value 0) 8 2) (answer (Value 1) 8 2)
   pub open-page : Both (load 4 0) (machineWith 1 (userState 1 (tlbOf (readable 0)))) onePage (answer (Value 0) 8 0) (answer (Value 1) 8 0)
-  pub hidden-table : Both (load 4 0x1000) (machineWith 1 (userState 0 (tlbOf noEntry))) rootPage (answer (Exception (PageFault Read false 0x1000)) 0 1) (answer (Value 1) 8 2)
+  pub hidden-table : Both (load 4 0x1000) (machineWith 2 (userState 0 (tlbOf noEntry))) rootPage (answer (Exception (PageFault Read false 0x1000)) 0 1) (answer (Value 0) 8 2)
   pub table-stored : (x : ℕ) → resultOf (store 4 4 0x2013) (machineWith 3 (userState 0 (tlbOf noEntry))) (writableTable x) ≡ left (walked 3 1) (openedTable x) (answer (Value 0) 0 2)
   pub leaf-used : Both (load 4 0x1000) (walked 3 1) openedTable (answer (Value 0) 8 2) (answer (Value 1) 8 2)
 
@@ -113,10 +113,10 @@ computed =
       loads = λ x. simp reads;
       stores = λ x. simp (reads, laid-inside, laid-write 4 2049 0xCAFE ((3072, x) ∷ visible));
       loads-back = λ x. simp reads;
-      one-page = λ f. refl;
-      four-pages = (refl, refl);
-      root-page = refl;
-      own-leaf = refl;
+      one-page = λ f x. refl;
+      four-pages = λ x. (refl, refl);
+      root-page = (refl, refl);
+      own-leaf = λ x. refl;
       unaligned = (simp reads, simp reads);
       privileged = (simp reads, simp reads);
       untabled = (simp reads, simp reads);

@@ -50,7 +50,8 @@ Holds unhiddenPages hidden os M m m′ = (a : ℕ) → hidden a ≡ true → (k 
 Holds shutTables hidden os M m m′ = TablesShut m (M .sys .vm)
 
 pub record Counterexample (w : Premise) (hidden : ℕ → Bool) (os : List Op) (M : Machine) (m m′ : Memory) (x x′ : List Answer) : Type 0 where
-  pub others : (v : Premise) → v ≢ w → Holds v hidden os M m m′
+  -- every other premise, of either memory beside the other
+  pub others : (v : Premise) → v ≢ w → Holds v hidden os M m m′ × Holds v hidden os M m′ m
   pub answers : ranOps os M m .answers ≡ x
   pub answers′ : ranOps os M m′ .answers ≡ x′
   pub differ : x ≢ x′
@@ -87,12 +88,12 @@ twoLeaves = (1024, 0x2001) ∷ (2048, 0x3013) ∷ (2049, 0x3013) ∷ []
 abbrev pub fourPages : ℕ → ℕ → Memory
 fourPages i x = laid 4 ((i, x) ∷ twoLeaves)
 
--- level 1 in page 0, whose word 0 is x; where page 0 is taken for a level-2 table, its word 1 is a leaf of page 0, for reading
+-- level 1 in page 0, whose word 0 is x; where that names page 0 as a level-2 table, word 1 there is a leaf of page 1, for reading
 abbrev pub rootLeaf : List Word
-rootLeaf = (1, 0x0013) ∷ []
+rootLeaf = (1, 0x1013) ∷ []
 
 abbrev pub rootPage : ℕ → Memory
-rootPage x = laid 1 ((0, x) ∷ rootLeaf)
+rootPage x = laid 2 ((0, x) ∷ rootLeaf)
 
 -- level 1 in page 0, level 2 in page 1; virtual page 0 is that page 1, for writing too; of page 2 word 0 is x
 abbrev pub ownLeaf : List Word
@@ -129,8 +130,8 @@ pub record Needed : Type 0 where
       (answer (Value 0) 8 0 ∷ []) (answer (Value 1) 8 0 ∷ [])
   -- a hidden table: where its word 0 names no table there is a page fault, where it names one a value
   pub hidden-table :
-      Counterexample unhiddenTables (onPage 0) (load 4 0x1000 ∷ []) (machineWith 1 (userState 0 (tlbOf noEntry))) (rootPage 0) (rootPage 1)
-      (answer (Exception (PageFault Read false 0x1000)) 0 1 ∷ []) (answer (Value 1) 8 2 ∷ [])
+      Counterexample unhiddenTables (onPage 0) (load 4 0x1000 ∷ []) (machineWith 2 (userState 0 (tlbOf noEntry))) (rootPage 0) (rootPage 1)
+      (answer (Exception (PageFault Read false 0x1000)) 0 1 ∷ []) (answer (Value 0) 8 2 ∷ [])
   -- a hidden byte in an open page is read; PTBR's page is outside the map
   pub hidden-open :
       Counterexample unhiddenPages (onPage 0) (load 4 0 ∷ []) (machineWith 1 (userState 1 (tlbOf (readable 0)))) (onePage 0) (onePage 1)
