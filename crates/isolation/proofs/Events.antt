@@ -1,15 +1,16 @@
 -- Demand 3 for runs of events. Assumes nothing.
 use mathlib.Core.Path.{_≡_, sym, ap, ap₂, _∙_}
 use mathlib.Core.List.{List, [], _∷_, _++_, map}
+use Rattle.listing.specs.Listing.{listingText}
 use Rattle.listing.specs.declared.Line.{Line}
 use Rattle.memory.specs.Memory.{Memory}
 use Rattle.script.specs.declared.Event.{Event}
 use Rattle.machine.specs.Event.Laws.{step-access}
-use Rattle.machine.specs.Run.{runOver}
-use Rattle.machine.specs.Run.Laws.{over-none, over-next, over-append}
+use Rattle.machine.specs.Run.{runOver, firstMachine, firstMemory, listingOf}
+use Rattle.machine.specs.Run.Laws.{over-none, over-next, over-append, listing-good}
 use Rattle.machine.specs.declared.state.Machine.{Machine}
 use Rattle.isolation.specs.Demand3.{resultOf, answerOf, ranOps, Demand3}
-use Rattle.isolation.specs.Events.{opOf, shownAs, AllAccesses, InRuns}
+use Rattle.isolation.specs.Events.{opOf, shownAs, AllAccesses, InRuns, InScripts}
 use Rattle.isolation.specs.Premises.{AllAligned}
 use Rattle.isolation.proofs.Runs.{demand3}
 
@@ -36,3 +37,11 @@ in-runs hidden first others M M′ m m′ x h =
     over-append first others M m
     ∙ ap₂ (λ (a b : List Line). a ++ b) (x .lines) (rest ∙ ap (λ (K : Machine). runOver others K (runOver first M′ m′ .memory) .lines) (x .machine))
     ∙ sym (over-append first others M′ m′)
+
+pub in-scripts : InScripts
+unfolding InScripts InRuns
+in-scripts hidden first others s s′ h h′ g g′ e e′ x all =
+    let lines = in-runs hidden first others (firstMachine h) (firstMachine h′) (firstMemory s h) (firstMemory s′ h′) x all in
+    let here : listingOf s ≡ listingText (runOver (first ++ others) (firstMachine h) (firstMemory s h) .lines) = listing-good s h g ∙ rw e in
+    let there : listingOf s′ ≡ listingText (runOver (first ++ others) (firstMachine h′) (firstMemory s′ h′) .lines) = listing-good s′ h′ g′ ∙ rw e′ in
+    here ∙ ap listingText lines ∙ sym there

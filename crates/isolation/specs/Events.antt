@@ -3,17 +3,21 @@
 --   opOf e                == the access that an event of kind 0 to 2 is
 --   shownAs x             == the line of an access's answer
 --   AllAccesses es        == every event is an aligned access
---   InRuns                == "two scripts whose images differ only in hidden bytes": where the first events print the same lines and reach the same
---                            state, sealed, and the others are aligned accesses in user mode, all lines are the same
+--   Entered hidden x x′   == two runs have come to one machine in user mode, over memories that differ in sealed hidden bytes alone
+--   InRuns                == where first events print the same lines and come there, and the others are aligned accesses, all lines are the same
+--   InScripts             == so two scripts whose images differ only in hidden bytes print the same listing
 use Prim.Native.Nat.{ℕ, _<_}
 use mathlib.Core.Path.{_≡_}
 use mathlib.Core.Bool.{Bool}
 use mathlib.Core.List.{List, [], _∷_, _++_}
 use Rattle.listing.specs.declared.Line.{Line}
 use Rattle.memory.specs.Memory.{Memory}
+use Rattle.script.specs.Header.{scriptOf}
 use Rattle.script.specs.declared.Event.{Event}
+use Rattle.script.specs.declared.header.Header.{Header}
+use Rattle.script.specs.declared.header.Script.the-variants.{Good}
 use Rattle.machine.specs.Event.{lineOf, accessKind, storedBy}
-use Rattle.machine.specs.Run.{Run, runOver}
+use Rattle.machine.specs.Run.{Run, runOver, scriptEvents, firstMachine, firstMemory, listingOf}
 use Rattle.machine.specs.declared.state.Machine.{Machine}
 use Rattle.isolation.specs.Demand3.{Answer}
 use Rattle.isolation.specs.Premises.{Op, Aligned, InUserMode, Sixteen, Alike, Sealed}
@@ -41,3 +45,10 @@ unfoldable pub InRuns : Type 0
 InRuns =
     (hidden : ℕ → Bool) (first others : List Event) (M M′ : Machine) (m m′ : Memory) → Entered hidden (runOver first M m) (runOver first M′ m′) → AllAccesses others
     → runOver (first ++ others) M m .lines ≡ runOver (first ++ others) M′ m′ .lines
+
+unfoldable pub InScripts : Type 0
+InScripts =
+    (hidden : ℕ → Bool) (first others : List Event) (s s′ : List ℕ) (h h′ : Header) → scriptOf s ≡ Good h → scriptOf s′ ≡ Good h′
+    → scriptEvents s h ≡ first ++ others → scriptEvents s′ h′ ≡ first ++ others
+    → Entered hidden (runOver first (firstMachine h) (firstMemory s h)) (runOver first (firstMachine h′) (firstMemory s′ h′)) → AllAccesses others
+    → listingOf s ≡ listingOf s′

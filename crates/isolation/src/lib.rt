@@ -1,7 +1,7 @@
 // Isolation: what the port is for. A user's accesses neither show nor change what is sealed off from them.
 //
 // Nothing here is run: each function's contract is a theorem about the machine's combined access.
-ghost use Rattle.isolation.specs.Events.{InRuns};
+ghost use Rattle.isolation.specs.Events.{InRuns, InScripts};
 ghost use Rattle.isolation.specs.Demand3.{InPages, Demand3, Integrity, Confidentiality};
 
 // Demand 3, for accesses of any number, at every address and size, refused ones included.
@@ -17,6 +17,11 @@ pub fn in_pages()
 // Demand 3 for the lines that two runs of a script's events print.
 pub fn in_runs()
     ensures { λ _. ⌜ InRuns ⌝ }
+{}
+
+// So two scripts whose images differ in what is sealed off from their user print the same listing.
+pub fn in_scripts()
+    ensures { λ _. ⌜ InScripts ⌝ }
 {}
 
 // What the pit task cannot write, it cannot change.

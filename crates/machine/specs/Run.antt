@@ -3,7 +3,8 @@
 --   Run                   == what a run leaves of machine and memory, and the lines that it shows
 --   runOver es M m        == the events es, each stepped on what the one before it left
 --   runFrom n s at M m    == the same of n events of the script s, the first at place `at`
---   scriptRun s h         == a good script's run: a new machine over the image
+--   scriptEvents, firstMachine, firstMemory == a script's events, and what they start on: a new machine over the image
+--   scriptRun s h         == a good script's run
 --   listingOf s           == what a script prints: its run's lines and the last line, or only `refused` and its number
 use Prim.Native.Nat.{ℕ}
 use mathlib.Core.List.{List, [], _∷_}
@@ -41,9 +42,18 @@ runOver (e ∷ es) M m =
 abbrev pub runFrom : ℕ → List ℕ → ℕ → Machine → Memory → Run
 runFrom n s at M m = runOver (eventsFrom n s at) M m
 
+-- a script's events, and what they start on
+abbrev pub scriptEvents : List ℕ → Header → List Event
+scriptEvents s h = eventsFrom (h .events) s (h .«events_at»)
+
+abbrev pub firstMachine : Header → Machine
+firstMachine h = newMachine (h .base) (h .image) (h .penalty)
+
+abbrev pub firstMemory : List ℕ → Header → Memory
+firstMemory s h = lent (h .base) (bytesFrom s (h .«image_at») (h .image))
+
 unfoldable pub scriptRun : List ℕ → Header → Run
-scriptRun s h =
-    runFrom (h .events) s (h .«events_at») (newMachine (h .base) (h .image) (h .penalty)) (lent (h .base) (bytesFrom s (h .«image_at») (h .image)))
+scriptRun s h = runOver (scriptEvents s h) (firstMachine h) (firstMemory s h)
 
 -- by what the header says
 unfoldable pub listed : List ℕ → Script → List ℕ

@@ -3,6 +3,7 @@
 --   over-lines     == a run has a line for each event
 --   over-append    == a run goes on where another ended
 --   run-lines      == so a run of n events of a script has n lines
+--   listing-good   == a good script's listing is that of its events' run
 --   listing-whole  == every script's listing fits into `LISTING_MAX` bytes
 --   run-none, run-next == a run of no event, and of one event more: the event's step, and the run on what that left
 use Prim.Native.Nat.{ℕ, zero, suc, _+_, _≤_}
@@ -10,6 +11,7 @@ use mathlib.Core.Path.{_≡_, refl, ap, _∙_}
 use mathlib.Core.List.{List, [], _∷_, _++_}
 use lib.ListN.{length}
 use Rattle.common.specs.Refusal.{refusalNumber}
+use Rattle.listing.specs.Listing.{listingText}
 use Rattle.listing.specs.Listing.Laws.{listing-fits, refused-fits}
 use Rattle.listing.specs.declared.Line.{Line}
 use Rattle.memory.specs.Memory.{Memory}
@@ -17,10 +19,11 @@ use Rattle.script.specs.Event.{eventAt, eventsFrom, events-none, events-next}
 use Rattle.script.specs.Header.{scriptOf}
 use Rattle.script.specs.Header.Laws.{good-sound}
 use Rattle.script.specs.declared.Event.{Event}
+use Rattle.script.specs.declared.header.Header.{Header}
 use Rattle.script.specs.declared.header.Script.{Script}
 use Rattle.script.specs.declared.header.Script.the-variants.{Good, Refused}
 use Rattle.machine.specs.Event.{stepOf}
-use Rattle.machine.specs.Run.{after, runOver, runFrom, scriptRun, listed, listingOf}
+use Rattle.machine.specs.Run.{after, runOver, runFrom, scriptEvents, firstMachine, firstMemory, scriptRun, listed, listingOf}
 use Rattle.machine.specs.declared.state.Machine.{Machine}
 
 pub over-none : (M : Machine) (m : Memory) → runOver [] M m ≡ record { machine = M; memory = m; lines = [] }
@@ -67,3 +70,7 @@ listed-whole s (Refused r) e = refused-fits (refusalNumber r)
 pub listing-whole : (s : List ℕ) → length (listingOf s) ≤ 131072
 unfolding listingOf
 listing-whole s = listed-whole s (scriptOf s) refl
+
+pub listing-good : (s : List ℕ) (h : Header) → scriptOf s ≡ Good h → listingOf s ≡ listingText (runOver (scriptEvents s h) (firstMachine h) (firstMemory s h) .lines)
+unfolding listingOf listed scriptRun
+listing-good s h g = rw g
