@@ -1,4 +1,5 @@
 """Tests of the rehearsal package and of tools/contracts. They need no built program: what the programs print is stored.
+Two do need them, and the gate runs those behind `rt ci`: `tests.programs` and `tests.sealed`.
 
     python3 -m unittest discover -s tests -t .
 

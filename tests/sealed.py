@@ -1,5 +1,5 @@
 """The picture's premises against runs of the machine: where all are kept, two memories that differ in the hidden bytes
-give one run. It needs the built programs, so it is run by hand:
+give one run. It needs the built programs, so the gate runs it behind `rt ci`:
 
     python3 -m tests.sealed FIRST LAST
 

@@ -4,6 +4,7 @@
 --   opens g              == it is open
 --   gated g a f          == what comes behind an open gate, or what a refusal answers
 --   firstOf g h          == the first refusal of two gates, one behind the other
+--   mapGood m            == `goodMap` of a memory
 --   mapGate m            == refusal 2 where the map is not good
 --   sizeGate legal       == refusal 1 where the size is not legal
 --   accessGate m legal   == refusal 2 for the map, then 1 for the size
