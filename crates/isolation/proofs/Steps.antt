@@ -65,8 +65,8 @@ sealed-on : (hidden : ℕ → Bool) (m m₂ : Memory) (vm vm₂ : Vm) → Sealed
 sealed-on hidden m m₂ vm vm₂ here r same =
     record {
       tables = λ a g t. here .tables a g (back a t);
-      pages = λ a g k o. here .pages a g k (back-open m m₂ vm vm₂ r same k a o);
-      unwritable = λ a i t o. here .unwritable a (λ z. i (sym (same a (back a t)) ∙ z)) (back a t) (back-open m m₂ vm vm₂ r same Write a o);
+      pages = λ a g k o. here .pages a g k (back-open m m₂ vm vm₂ r same _ a o);
+      unwritable = λ a i t o. here .unwritable a (λ z. i (sym (same a (back a t)) ∙ z)) (back a t) (back-open m m₂ vm vm₂ r same _ a o);
     }
   where
     back : (a : ℕ) → TableByte m₂ (vm₂ .ptbr) a → TableByte m (vm .ptbr) a
