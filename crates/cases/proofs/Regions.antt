@@ -1,64 +1,35 @@
 -- The rows of the table that regions decide, P6 and P7.
 --
---   some-granted, none-granted    == the search through the regions, by any slot
---   decided                       == the check's whole answer where the regions decide
+--   decided    == the check's whole answer where the regions decide
 -- Assumes nothing.
-use Prim.Native.Nat.{ℕ, zero, suc, _/_, _%_, _<_}
-use mathlib.Core.Path.{_≡_, refl, sym, _∙_}
-use mathlib.Core.Bool.{Bool, true, false, cond, _&&_, or-true}
-use mathlib.Core.List.{List, [], _∷_}
+use Prim.Native.Nat.{ℕ, _/_, _%_, _<_}
+use mathlib.Core.Path.{_≡_, refl, _∙_}
+use mathlib.Core.Bool.{Bool, true, false, cond, _&&_}
 use mathlib.Core.Logic.{⊎-elim}
 use native.Mathlib.Omega.{arith}
 use lib.Dec.{eqb, ltb, leb}
 use lib.ListN.{getD}
 use borrow.Author.Tests.{eqb-true, eqb-false, lt-ltb, le-leb}
 use Rattle.common.specs.Cases.{bool-is}
-use Rattle.memory.specs.Gate.Laws.{map-open, size-open}
 use Rattle.memory.specs.Memory.{Memory}
 use Rattle.mmu.specs.Exception.{regionBit}
 use Rattle.mmu.specs.declared.exception.Access.{Access}
 use Rattle.mmu.specs.declared.exception.Access.the-variants.{Read, Write, Fetch}
 use Rattle.mmu.specs.declared.exception.Exception.the-variants.{ProtectionFault}
-use Rattle.privilege.specs.Access.{fetchSize, dataSize, legalSize, translatingOf, allowsOf, accessAnswered, checkAccess}
-use Rattle.privilege.specs.Access.Laws.{check-good, by-regions}
+use Rattle.privilege.specs.Access.{fetchSize, dataSize, legalSize, accessAnswered, checkAccess}
+use Rattle.privilege.specs.Access.Laws.{regions-decide}
 use Rattle.privilege.specs.Addresses.{addresses}
 use Rattle.privilege.specs.Region.{grantsOf, someGrants, allAllowed}
+use Rattle.privilege.specs.Region.Laws.{some-granted, none-granted}
 use Rattle.privilege.specs.State.{noRegion}
 use Rattle.privilege.specs.declared.check.Permission.the-variants.{Allowed, Denied}
-use Rattle.privilege.specs.declared.region.Region.{Region}
 use Rattle.privilege.specs.declared.state.SystemState.{SystemState}
 use Rattle.cases.specs.Cases.{Decided, Holds, NoOther, allowed, denied}
-
--- ---- the search
-
--- a region of zeros grants nothing
-nothing-granted : (a : ℕ) (k : Access) → grantsOf noRegion a k ≡ false
-unfolding grantsOf
-nothing-granted a Read = refl
-nothing-granted a Write = refl
-nothing-granted a Fetch = refl
-
-some-granted : (l : List Region) (n a : ℕ) (k : Access) → grantsOf (getD l n noRegion) a k ≡ true → someGrants l a k ≡ true
-unfolding someGrants
-some-granted [] n a k h = sym (nothing-granted a k) ∙ h
-some-granted (g ∷ l) zero a k h = simp h
-some-granted (g ∷ l) (suc n) a k h = simp (some-granted l n a k h) (or-true (grantsOf g a k))
-
-none-granted : (l : List Region) (a : ℕ) (k : Access) → ((j : ℕ) → grantsOf (getD l j noRegion) a k ≡ false) → someGrants l a k ≡ false
-unfolding someGrants
-none-granted [] a k h = refl
-none-granted (g ∷ l) a k h = simp (h 0) (none-granted l a k (λ j. h (suc j)))
-
--- ---- the check
 
 module _ (m : Memory) (s : SystemState) (d : Decided m s) where
   decided : (a n : ℕ) (k : Access) (b : Bool) → legalSize k n ≡ true → allAllowed (s .regions) k (addresses n a) ≡ b
       → checkAccess m s a n k ≡ accessAnswered s (cond b Allowed (Denied (ProtectionFault k)))
-  unfolding translatingOf allowsOf
-  decided a n k b legal h =
-      check-good m s a n k (size-open m (legalSize k n) (map-open m (d .map)) legal)
-      ∙ by-regions m s a n k (rw (d .user, d .off))
-      ∙ rw (d .user, h)
+  decided a n k b legal h = regions-decide m s a n k (d .map) legal (d .user) (d .off) ∙ rw h
 
   pub p6-allowed : (n : ℕ) → Holds s n 0x1000 0x2000 1 → allowed m s 0x1FFF 1 Read
   unfolding legalSize dataSize fetchSize grantsOf allAllowed addresses

@@ -16,6 +16,7 @@ use Rattle.mmu.specs.Exception.{regionBit}
 use Rattle.mmu.specs.declared.exception.Access.{Access}
 use Rattle.privilege.specs.State.{noRegion}
 use Rattle.privilege.specs.declared.region.Region.{Region}
+pub mod Laws
 
 unfoldable pub grantsOf : Region → ℕ → Access → Bool
 grantsOf g a k = eqb (g .flags / regionBit k % 2) 1 && leb (g .start) a && ltb a (g .end)

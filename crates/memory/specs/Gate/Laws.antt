@@ -5,16 +5,27 @@
 --   map-alone                        == where every size is legal the gate is the map's
 --   access-open                      == what an open gate says of the map and the size
 --   is-open, is-shut                 == which gate it is, by whether it opens and by the refusal of one that does not
+--   shut-number                      == an access's gate refuses with 2 or 1 alone
 --   gate-same, access-same           == a gate depends on the map alone
 --   gated-holds, gated-case          == what holds in either case holds of what is gated
+use Prim.Native.Nat.{_<_}
 use mathlib.Core.Path.{_≡_, refl, sym}
 use mathlib.Core.Bool.{Bool, true, false, cond}
+use lib.Dec.{lit<}
 use Rattle.common.specs.Cases.{absurd-eq}
+use Rattle.common.specs.Refusal.{refusalNumber}
 use Rattle.common.specs.declared.Refusal.{Refusal}
 use Rattle.common.specs.declared.Refusal.the-variants.{Size, Map}
 use Rattle.memory.specs.Gate.{Gate, Open, Refused, opens, mapGood, gated, mapGate, sizeGate, firstOf, accessGate}
 use Rattle.memory.specs.Memory.{Memory}
 use Rattle.memory.specs.Memory.Laws.{SameMap}
+
+-- the refusals of both gates, by what they are asked
+few : (good legal : Bool) (r : Refusal) → firstOf (cond good Open (Refused Map)) (sizeGate legal) ≡ Refused r → refusalNumber r < 3
+unfolding refusalNumber
+few true true r e = absurd-eq (cc)
+few true false r e = let is : Size ≡ r = cc in rw (← is) (lit< tt)
+few false legal r e = let is : Map ≡ r = cc in rw (← is) (lit< tt)
 
 module _ (m : Memory) where
   pub map-open : mapGood m ≡ true → mapGate m ≡ Open
@@ -54,6 +65,10 @@ module _ (m : Memory) where
         by true true e = (refl, refl)
         by true false e = absurd-eq (cc)
         by false l e = absurd-eq (cc)
+
+    pub shut-number : (r : Refusal) → accessGate m legal ≡ Refused r → refusalNumber r < 3
+    unfolding accessGate mapGate
+    shut-number = few (mapGood m) legal
 
     pub is-open : opens (accessGate m legal) ≡ true → accessGate m legal ≡ Open
     is-open = by (accessGate m legal)

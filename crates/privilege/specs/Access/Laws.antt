@@ -4,28 +4,34 @@
 --   check-refused, check-good == a refusal of the gate, with nothing changed; else the check of a legal access
 --   legal-answers      == a legal access is allowed or denied, never refused
 --   by-supervisor, by-regions, by-pages       == the check in each mode
+--   regions-decide     == the whole check of a user without translation: what the regions say of the access's bytes
 --   check-keeps        == what any check leaves, a refused or denied one included
 --   check-user         == the mode stays
 --   refused-nothing    == a refusal has changed nothing and read nothing
+--   check-number       == a check is refused with 2 or 1 alone
 --   legal-few, allowed-size == a legal size, and so an allowed access's, is between 1 and 4
 use Prim.Native.Nat.{ℕ, _≤_, _<_}
-use mathlib.Core.Path.{_≡_, refl, ap}
-use mathlib.Core.Bool.{Bool, true, false, _||_}
+use mathlib.Core.Path.{_≡_, refl, ap, _∙_}
+use mathlib.Core.Bool.{Bool, true, false, cond, _||_}
 use native.Mathlib.Omega.{arith}
 use lib.Dec.{eqb}
 use borrow.Author.Tests.{eqb-true}
 use Rattle.common.specs.Cases.{absurd-eq, cond-holds}
+use Rattle.common.specs.Refusal.{refusalNumber}
 use Rattle.common.specs.declared.Refusal.{Refusal}
-use Rattle.memory.specs.Gate.{Open, Refused as Shut, accessGate}
-use Rattle.memory.specs.Gate.Laws.{gated-holds, gated-case, access-open}
+use Rattle.memory.specs.Gate.{Open, Refused as Shut, mapGood, accessGate}
+use Rattle.memory.specs.Gate.Laws.{map-open, size-open, gated-holds, gated-case, access-open, shut-number}
 use Rattle.memory.specs.Memory.{Memory}
 use Rattle.mmu.specs.Check.{checkEach, pagesOf}
 use Rattle.mmu.specs.declared.check.Verdict.{Verdict}
 use Rattle.mmu.specs.declared.check.Verdict.the-variants as verdict
 use Rattle.mmu.specs.declared.exception.Access.{Access}
 use Rattle.mmu.specs.declared.exception.Access.the-variants.{Read, Write, Fetch}
+use Rattle.mmu.specs.declared.exception.Exception.the-variants.{ProtectionFault}
 use Rattle.privilege.specs.Access.{fetchSize, dataSize, legalSize, translatingOf, allowsOf, permissionOf, accessAnswered, fromPages, byRegions, checkLegal, checkAccess}
 use Rattle.mmu.specs.Check.Pages.{VmKept, kept-same, pages-keep}
+use Rattle.privilege.specs.Addresses.{addresses}
+use Rattle.privilege.specs.Region.{allAllowed}
 use Rattle.privilege.specs.State.{withVm}
 use Rattle.privilege.specs.declared.check.Permission.{Permission}
 use Rattle.privilege.specs.declared.check.Permission.the-variants.{Allowed, Denied, Refused}
@@ -79,6 +85,11 @@ module _ (m : Memory) (s : SystemState) (a n : ℕ) (k : Access) where
   unfolding checkLegal translatingOf allowsOf
   by-supervisor h = rw h
 
+  pub regions-decide : mapGood m ≡ true → legalSize k n ≡ true → s .user ≡ true → s .vm .enabled ≡ false
+      → checkAccess m s a n k ≡ accessAnswered s (cond (allAllowed (s .regions) k (addresses n a)) Allowed (Denied (ProtectionFault k)))
+  unfolding translatingOf allowsOf
+  regions-decide good legal user off = check-good (size-open m (legalSize k n) (map-open m good) legal) ∙ by-regions (rw (user, off)) ∙ rw user
+
   not-refused : (v : Verdict) (r : Refusal) → permissionOf v ≡ Refused r → ⊥
   not-refused verdict.Allowed r e = absurd-eq (cc)
   not-refused (verdict.Denied x) r e = absurd-eq (cc)
@@ -111,6 +122,12 @@ module _ (m : Memory) (s : SystemState) (a n : ℕ) (k : Access) where
   refused-nothing r =
       gated-holds (λ (c : AccessChecked). c .permission ≡ Refused r → c ≡ accessAnswered s (Refused r)) (accessGate m (legalSize k n))
       (λ e. absurd (legal-answers r e)) (λ q e. ap (accessAnswered s) e)
+
+  pub check-number : (r : Refusal) → checkAccess m s a n k .permission ≡ Refused r → refusalNumber r < 3
+  unfolding checkAccess
+  check-number r =
+      gated-case (λ (c : AccessChecked). c .permission ≡ Refused r → refusalNumber r < 3) (accessGate m (legalSize k n))
+      (λ g e. absurd (legal-answers r e)) (λ q g e. let is : q ≡ r = cc in rw is at (shut-number m (legalSize k n) q g))
 
   pub allowed-size : checkAccess m s a n k .permission ≡ Allowed → (0 < n) × (n ≤ 4)
   unfolding checkAccess

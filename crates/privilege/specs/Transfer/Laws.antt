@@ -5,6 +5,7 @@
 --   physical-off, physical-on == an address that is not translated, and one that is
 --   frame-same               == the frame depends on the page alone
 --   physical-next, word-spots == inside a page the next byte has the next address, so a word needs one lookup
+--   load-number, store-number == a load or store is refused with 2 or 1 alone
 --   load-same                == equal maps and equal bytes at the addresses give equal loads
 --   store-same               == equal maps give a store equal answers
 --   store-map                == a store leaves the map
@@ -17,18 +18,26 @@ use mathlib.Core.Logic.{_≢_}
 use native.Mathlib.Omega.{arith}
 use lib.ListN.{length}
 use Rattle.common.specs.Bytes.{bytesOf}
+use Rattle.common.specs.Cases.{absurd-eq, cond-holds}
+use Rattle.common.specs.Refusal.{refusalNumber}
 use Rattle.common.specs.declared.Refusal.{Refusal}
 use Rattle.memory.specs.Gate.{Gate, Open, Refused, gated, accessGate}
-use Rattle.memory.specs.Gate.Laws.{gated-holds, access-same}
+use Rattle.memory.specs.Gate.Laws.{gated-holds, gated-case, access-same, shut-number}
 use Rattle.common.specs.Lists.{Each}
-use Rattle.memory.specs.Memory.{Memory, byteAt, wordSpots, putAt}
+use Rattle.memory.specs.Memory.{Memory, byteAt, readAt, wordSpots, allWritable, putAt}
 use Rattle.memory.specs.Memory.Laws.{SameMap, same-map, read-same, all-writable-same, write-map, write-both, write-other}
+use Rattle.memory.specs.declared.Content.{Content}
+use Rattle.memory.specs.declared.Content.the-variants as content
 use Rattle.mmu.specs.Vm.{frameOf}
 use Rattle.mmu.specs.declared.vm.Vm.{Vm}
 use Rattle.privilege.specs.Access.{dataSize, translatingOf}
 use Rattle.privilege.specs.Addresses.{addresses}
-use Rattle.privilege.specs.Transfer.{joinedTo, physicalOf, spots, loadAt, storeAt, memoryAt}
+use Rattle.privilege.specs.Transfer.{joinedTo, physicalOf, spots, readOf, loadAt, storeAt, memoryAt}
 use Rattle.privilege.specs.declared.state.SystemState.{SystemState}
+use Rattle.privilege.specs.declared.transfer.DataRead.{DataRead}
+use Rattle.privilege.specs.declared.transfer.DataRead.the-variants as read
+use Rattle.privilege.specs.declared.transfer.DataWritten.{DataWritten}
+use Rattle.privilege.specs.declared.transfer.DataWritten.the-variants as written
 
 module _ (s : SystemState) (va : ℕ) where
   pub spots-none : spots s va 0 ≡ []
@@ -77,6 +86,26 @@ word-spots s va h g =
     let q2 : physicalOf s (va + 2) ≡ physicalOf s va + 2 = omega arith in
     let q3 : physicalOf s (va + 3) ≡ physicalOf s va + 3 = omega arith in
     rw (spots-next s va 3, a1, spots-next s (va + 1) 2, a2, spots-next s (va + 2) 1, a3, spots-next s (va + 3) 0, spots-none, p1, q2, q3)
+
+-- ---- what loads and stores are refused with
+
+module _ (m : Memory) (n : ℕ) (l : List ℕ) (r : Refusal) where
+  not-refused : (c : Content) → readOf c ≡ read.Refused r → ⊥
+  not-refused (content.Value v) e = absurd-eq (cc)
+  not-refused content.Outside e = absurd-eq (cc)
+
+  pub load-number : loadAt m n l ≡ read.Refused r → refusalNumber r < 3
+  unfolding loadAt
+  load-number =
+      gated-case (λ (d : DataRead). d ≡ read.Refused r → refusalNumber r < 3) (accessGate m (dataSize n))
+      (λ g e. absurd (not-refused (readAt m l) e)) (λ q g e. let is : q ≡ r = cc in rw is at (shut-number m (dataSize n) q g))
+
+  pub store-number : storeAt m n l ≡ written.Refused r → refusalNumber r < 3
+  unfolding storeAt
+  store-number =
+      gated-case (λ (d : DataWritten). d ≡ written.Refused r → refusalNumber r < 3) (accessGate m (dataSize n))
+      (λ g. cond-holds (λ (d : DataWritten). d ≡ written.Refused r → refusalNumber r < 3) (allWritable m l) (λ e. absurd-eq (cc)) (λ e. absurd-eq (cc)))
+      (λ q g e. let is : q ≡ r = cc in rw is at (shut-number m (dataSize n) q g))
 
 -- ---- what loads and stores depend on, and what they leave: for any addresses l
 
