@@ -35,6 +35,8 @@ pub record Meaning : Type 0 where
       → accessOf k M m a n v ≡ record { accessed = refusedWith M r; memory = m }
   -- "6: event kind above 15, or kind 15 with a register above 31"; a refused call has changed nothing
   pub event-refused : (M : Machine) (m : Memory) (e : Event) → BadEvent e → stepOf M m e ≡ record { stepped = refuses M refusal.Event; memory = m }
+  -- and 6 for no other event: it is what a line of letter N with the digits 6 tells
+  pub event-only : (M : Machine) (m : Memory) (e : Event) → stepOf M m e .stepped .line .letter ≡ 78 → stepOf M m e .stepped .line .digits ≡ 6 → BadEvent e
   -- "same, the run goes on"
   pub goes-on : (e : Event) (es : List Event) (M : Machine) (m : Memory) → BadEvent e → runOver (e ∷ es) M m ≡ after (refusing refusal.Event) (runOver es M m)
   -- of the kinds only 1, "store b at a", changes memory

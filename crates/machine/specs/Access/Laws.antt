@@ -6,7 +6,8 @@
 --   access-read, access-written        == the same of a load or fetch, and of a store
 --   access-keeps                       == a load or fetch leaves memory, whatever the check says
 --   access-base                        == every access leaves the map's base
-use Prim.Native.Nat.{ℕ}
+--   access-number                      == an access is refused with 2 or 1 alone
+use Prim.Native.Nat.{ℕ, _<_}
 use mathlib.Core.Path.{_≡_, refl, ap, _∙_}
 use mathlib.Core.Bool.{true}
 use mathlib.Core.List.{List, _∷_}
@@ -14,17 +15,23 @@ use native.Mathlib.Nat.{add-zero}
 use Rattle.cache.specs.declared.CacheAccess.{CacheAccess}
 use Rattle.cache.specs.declared.L1Cache.{L1Cache}
 use Rattle.common.specs.Cases.{absurd-eq}
+use Rattle.common.specs.Refusal.{refusalNumber}
 use Rattle.common.specs.declared.Refusal.{Refusal}
 use Rattle.memory.specs.Memory.{Memory}
 use Rattle.mmu.specs.declared.exception.Access.{Access}
 use Rattle.mmu.specs.declared.exception.Access.the-variants.{Read, Write, Fetch}
 use Rattle.mmu.specs.declared.exception.Exception.{Exception}
 use Rattle.privilege.specs.Access.{checkAccess}
+use Rattle.privilege.specs.Access.Laws.{check-number}
 use Rattle.privilege.specs.Transfer.{loadAt, storeAt, memoryAt}
-use Rattle.privilege.specs.Transfer.Laws.{store-map}
+use Rattle.privilege.specs.Transfer.Laws.{store-map, load-number, store-number}
 use Rattle.privilege.specs.declared.check.AccessChecked.{AccessChecked}
 use Rattle.privilege.specs.declared.check.Permission.{Permission}
 use Rattle.privilege.specs.declared.check.Permission.the-variants.{Allowed, Denied, Refused}
+use Rattle.privilege.specs.declared.transfer.DataRead.{DataRead}
+use Rattle.privilege.specs.declared.transfer.DataRead.the-variants as read
+use Rattle.privilege.specs.declared.transfer.DataWritten.{DataWritten}
+use Rattle.privilege.specs.declared.transfer.DataWritten.the-variants as written
 use Rattle.machine.specs.State.{withSys, withCache}
 use Rattle.machine.specs.Access.{Result, isRead, accessAnswer, linesOf, presented, presentedEach, asked, readOutcome, writeOutcome, dataOutcome, dataMemory, moved, permitted, lookedUp, accessOf}
 use Rattle.machine.specs.declared.state.Machine.{Machine}
@@ -106,3 +113,37 @@ access-base Fetch M m a n v = ap (λ (x : Memory). x .base) (access-keeps Fetch 
 access-base Write M m a n v =
     let c = checkAccess m (M .sys) a n Write in
     by-permission M m (lookedUp c a n) n v c (c .permission)
+
+-- ---- what an access is refused with
+
+module _ (r : Refusal) where
+  read-refused : (d : DataRead) → readOutcome d ≡ outcome.Refused r → d ≡ read.Refused r
+  unfolding readOutcome
+  read-refused (read.Value v) e = absurd-eq (cc)
+  read-refused read.BusError e = absurd-eq (cc)
+  read-refused (read.Refused q) e = let is : q ≡ r = cc in ap read.Refused is
+
+  write-refused : (d : DataWritten) → writeOutcome d ≡ outcome.Refused r → d ≡ written.Refused r
+  unfolding writeOutcome
+  write-refused written.Done e = absurd-eq (cc)
+  write-refused written.BusError e = absurd-eq (cc)
+  write-refused (written.Refused q) e = let is : q ≡ r = cc in ap written.Refused is
+
+  data-number : (k : Access) (m : Memory) (n : ℕ) (l : List ℕ) → dataOutcome k m n l ≡ outcome.Refused r → refusalNumber r < 3
+  unfolding dataOutcome
+  data-number Read m n l e = load-number m n l r (read-refused (loadAt m n l) e)
+  data-number Fetch m n l e = load-number m n l r (read-refused (loadAt m n l) e)
+  data-number Write m n l e = store-number m n l r (write-refused (storeAt m n l) e)
+
+  permitted-number : (k : Access) (M : Machine) (m : Memory) (l : List ℕ) (n v : ℕ) (c : AccessChecked) (p : Permission)
+      → (p ≡ Refused r → refusalNumber r < 3) → permitted k M m l n v c p .accessed .outcome ≡ outcome.Refused r → refusalNumber r < 3
+  unfolding permitted
+  permitted-number k M m l n v c Allowed h e = data-number k m n l e
+  permitted-number k M m l n v c (Denied x) h e = absurd-eq (cc)
+  permitted-number k M m l n v c (Refused q) h e = let is : q ≡ r = cc in h (ap Refused is)
+
+  pub access-number : (k : Access) (M : Machine) (m : Memory) (a n v : ℕ) → accessOf k M m a n v .accessed .outcome ≡ outcome.Refused r → refusalNumber r < 3
+  unfolding accessOf
+  access-number k M m a n v =
+      let c = checkAccess m (M .sys) a n k in
+      permitted-number k M m (lookedUp c a n) n v c (c .permission) (check-number m (M .sys) a n k r)
