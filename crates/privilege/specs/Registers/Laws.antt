@@ -24,11 +24,13 @@ use Rattle.privilege.specs.declared.registers.SrAnswer.{SrAnswer}
 use Rattle.privilege.specs.declared.registers.SrAnswer.the-variants as answer
 use Rattle.privilege.specs.declared.registers.SrWritten.{SrWritten}
 
+-- "3 REGISTER"
 named-three : (x : Refusal) → Register ≡ x → refusalNumber x ≡ 3
 unfolding refusalNumber
 named-three x e = rw (← e)
 
 module _ (s : SystemState) (sr : ℕ) (reg : List ℕ) (x : Refusal) where
+  -- a read that is refused is so with 3
   abbrev Third : SrRead → Type 0
   Third r = r ≡ read.Refused x → refusalNumber x ≡ 3
 
