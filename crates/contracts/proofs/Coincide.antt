@@ -6,7 +6,7 @@ use Prim.Native.Nat.{ℕ}
 use Rattle.cache.specs.declared.CacheAccess.{CacheAccess}
 use Rattle.common.specs.declared.Refusal.{Refusal}
 use Rattle.contracts.proofs.Shapes.{answer, content, both, text, next}
-use Rattle.contracts.proofs.Words.{same-words, words, beside, memory, two, pair, reads, pages-same, access-same, step-same, run-same, open-words}
+use Rattle.contracts.proofs.Words.{same-words, words, beside, memory, two, pair, reads, pages-same, grants-same, access-same, step-same, run-same, open-words}
 use Rattle.machine.specs.declared.flat.run.Listed.{Listed}
 use Rattle.memory.specs.Gate.{Gate, Refused}
 use Rattle.privilege.specs.declared.registers.SrWritten.{SrWritten}
@@ -111,6 +111,7 @@ mmu-settled = search answer
 mmu-flat-settled : MmuFlat
 mmu-flat-settled = record {
   check-pages = record { agree = λ p q. words (pages-same _) p q };
+  grant-page = record { agree = λ p q. words (λ e e′. (e .1 ∙ sym (e′ .1), e .0 ∙ sym (e′ .0))) p q };
   frame-of = record { coincide = reads };
   flush = record { agree = λ p q. words (λ e e′. (e ∙ sym e′, refl)) p q };
   invalidate = record { agree = λ p q. words (λ e e′. (e ∙ sym e′, refl)) p q };
@@ -154,6 +155,7 @@ privilege-settled = record {
 privilege-flat-settled : PrivilegeFlat
 privilege-flat-settled = record {
   check-access = record { agree = λ p q. words (λ e e′. (pair (e .1) (e′ .1) (e .2) (e′ .2), e .0 ∙ sym (e′ .0))) p q };
+  grant-word = record { agree = λ p q. words (grants-same _ _ _ _ _ _) p q };
   enter-trap = record { agree = λ p q. words (λ e e′. (ap (λ (t : Trapped). (t .sys, t .reg)) (e ∙ sym e′), refl)) p q };
   leave-trap = record { agree = λ p q. words (λ e e′. two (λ (t : Returned). (t .sys, t .reg)) (λ (t : Returned). record { epc = t .epc; mode = t .mode }) e e′) p q };
   read-sr = record { coincide = reads };

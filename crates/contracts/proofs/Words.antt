@@ -3,7 +3,7 @@
 --   same-words       == by what an `Over` says of both: where there are n words by P, else they stay and the answer is `none`
 --   words, beside, memory == the same where the answer is all else; where memory was lent too, only to be read; where it was lent to be written
 --   two, pair        == two parts of one value that both outcomes are equal to, and a pair by its parts
---   pages-same, access-same, step-same, run-same == what the check of pages, an access, an event and a run say of both
+--   pages-same, grants-same, access-same, step-same, run-same == what the check of pages, a grant, an access, an event and a run say of both
 --   reads            == a contract that only reads admits one answer
 --   open-words       == a flush leaves the words open: an entry without its valid bit has the word 0, and 2 too
 --
@@ -38,6 +38,12 @@ use Rattle.mmu.specs.Vm.{flushed, frameOf}
 use Rattle.mmu.specs.declared.check.Checked.{Checked}
 use Rattle.mmu.specs.declared.flat.Pages.{Pages}
 use Rattle.mmu.specs.declared.vm.Vm.{Vm}
+use Rattle.memory.specs.Memory.{Memory}
+use Rattle.mmu.specs.declared.exception.Access.{Access}
+use Rattle.privilege.specs.Flat.{sysAt, regAt}
+use Rattle.privilege.specs.Flat.Access.{atOnce, GrantsWord}
+use Rattle.privilege.specs.declared.flat.access.Grant.{Grant}
+use Rattle.privilege.specs.declared.state.SystemState.{SystemState}
 use Rattle.contracts.specs.Settled.{Settled}
 use Rattle.contracts.specs.Words.{SameWords}
 
@@ -97,6 +103,15 @@ pages-same at p q =
     let c = p .0 ∙ sym (q .0) in
     let ppn = p .2 ∙ ap (λ (x : Checked). frameIf (x .verdict) (frameOf (x .vm) at)) c ∙ sym (q .2) in
     (ap (λ (x : Checked). x .vm) c, λ i. record { verdict = c i .verdict; ppn = ppn i; reads = c i .reads })
+
+-- a word is asked for at once or it is not
+pub grants-same : (m : Memory) (l : List ℕ) (a : ℕ) (k : Access) (w w′ : List ℕ) {g g′ : Grant} → GrantsWord m l a k g w → GrantsWord m l a k g′ w′
+    → (_≡_ {A = SystemState × List ℕ} (sysAt w, regAt w) (sysAt w′, regAt w′)) × (g ≡ g′)
+grants-same m l a k w w′ p q =
+    ⊎-elim
+    (λ (t : atOnce (sysAt l) a ≡ true). let e = p .0 t in let d = q .0 t in (pair (e .1) (d .1) (e .2) (d .2), e .0 ∙ sym (d .0)))
+    (λ (t : atOnce (sysAt l) a ≡ false). let e = p .1 t in let d = q .1 t in (pair (e .1) (d .1) (e .2) (d .2), e .0 ∙ sym (d .0)))
+    (bool-is (atOnce (sysAt l) a))
 
 module _ {M M′ : Machine} {b b′ bytes : List ℕ} where
   pub access-same : {r r′ : Answer} {f : Accessed} → (accessedAs r M ≡ f) × (b ≡ bytes) → (accessedAs r′ M′ ≡ f) × (b′ ≡ bytes)

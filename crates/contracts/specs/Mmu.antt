@@ -27,6 +27,7 @@ pub record Mmu : Type 0 where
 -- where the words of Extension V's state stand
 pub record MmuFlat : Type 0 where
   pub check-pages : SettledAs mmu.flat.check_pages.ended mmu.flat.check_pages.Reads.Learnt (λ κs a. SameWords vmWords vmAt (a .0 .now))
+  pub grant-page : SettledAs mmu.flat.grant_page.ended mmu.flat.grant_page.Reads.Learnt (λ κs a. SameWords vmWords vmAt (a .0 .now))
   pub frame-of : Settled mmu.flat.frame_of.ended mmu.flat.frame_of.Reads.Learnt
   pub flush : SettledAs mmu.flat.flush.ended mmu.flat.flush.Reads.Learnt (λ κs a. SameWords vmWords vmAt (a .0 .now))
   pub invalidate : SettledAs mmu.flat.invalidate.ended mmu.flat.invalidate.Reads.Learnt (λ κs a. SameWords vmWords vmAt (a .0 .now))

@@ -45,6 +45,7 @@ stateAt l = (sysAt l, regAt l)
 -- where their words stand
 pub record PrivilegeFlat : Type 0 where
   pub check-access : SettledAs privilege.flat.access.check_access.ended privilege.flat.access.check_access.Reads.Learnt (λ κs a. SameWords systemWords stateAt (a .0 .now))
+  pub grant-word : SettledAs privilege.flat.access.grant_word.ended privilege.flat.access.grant_word.Reads.Learnt (λ κs a. SameWords systemWords stateAt (a .0 .now))
   pub enter-trap : SettledAs privilege.flat.traps.enter_trap.ended privilege.flat.traps.enter_trap.Reads.Learnt (λ κs a. SameWords systemWords stateAt (a .0 .now))
   pub leave-trap : SettledAs privilege.flat.traps.leave_trap.ended privilege.flat.traps.leave_trap.Reads.Learnt (λ κs a. SameWords systemWords stateAt (a .0 .now))
   pub read-sr : Settled privilege.flat.registers.read_sr.ended privilege.flat.registers.read_sr.Reads.Learnt

@@ -1,7 +1,7 @@
 -- An access where the machine's words stand: its check, the cache, and what it comes to by what the check permits. Assumes nothing.
-use Prim.Native.Nat.{ℕ, zero, suc, _+_, _%_, _^_, _≤_, _<_}
+use Prim.Native.Nat.{ℕ, zero, suc, _+_, _%_, _^_, _<_}
 use mathlib.Core.Path.{_≡_, refl, sym, ap, _∙_}
-use mathlib.Core.Bool.{Bool, true}
+use mathlib.Core.Bool.{Bool, true, false, cond}
 use mathlib.Core.List.{List}
 use native.Mathlib.Omega.{arith}
 use lib.Dec.{eqb}
@@ -10,10 +10,12 @@ use borrow.Author.Tests.{ne-eqb}
 use Rattle.cache.specs.Cache.{loaded, fetched, stored}
 use Rattle.cache.specs.Flat.{cacheWords, cacheAt, Costs, Changes}
 use Rattle.cache.specs.declared.CacheAccess.{CacheAccess}
-use Rattle.common.specs.Cases.{cond-holds}
+use Rattle.common.specs.Bytes.{bytesOf}
+use Rattle.common.specs.Cases.{cond-holds, absurd-eq}
 use Rattle.common.specs.declared.Refusal.{Refusal}
 use Rattle.layout.specs.Words.{part, put}
-use Rattle.memory.specs.Memory.{Memory, lent, goodMap, readAt, wordSpots}
+use Rattle.memory.specs.Gate.{mapGood}
+use Rattle.memory.specs.Memory.{Memory, lent, goodMap, readAt, wordSpots, allWritable, putAt}
 use Rattle.memory.specs.declared.Content.{Content}
 use Rattle.memory.specs.declared.Content.the-variants as content
 use Rattle.mmu.specs.declared.exception.Access.{Access}
@@ -22,15 +24,16 @@ use Rattle.mmu.specs.declared.exception.Exception.{Exception}
 use Rattle.privilege.specs.Access.{checkAccess}
 use Rattle.privilege.specs.Access.Laws.{refused-nothing, allowed-size}
 use Rattle.privilege.specs.Flat.{systemWords}
-use Rattle.privilege.specs.Flat.Access.{permitOf, Permits as SysPermits}
-use Rattle.privilege.specs.Flat.Access.Laws.{permit-pa, permit-spots}
+use Rattle.privilege.specs.Flat.Access.{permitOf, permitFor, Permits as SysPermits, Grants as SysGrants}
+use Rattle.privilege.specs.Flat.Access.Laws.{permit-pa, permit-spots, grant-permits, grant-stays}
 use Rattle.privilege.specs.Rows.{rowsOf}
-use Rattle.privilege.specs.Rows.Laws.{load-word}
-use Rattle.privilege.specs.Transfer.{physicalOf, spots, loadAt, storeAt, memoryAt}
+use Rattle.privilege.specs.Rows.Laws.{word-loaded, word-stored, word-left}
+use Rattle.privilege.specs.Transfer.{physicalOf, spots, readOf, loadAt, storeAt, memoryAt}
 use Rattle.privilege.specs.Transfer.Laws.{spots-next}
 use Rattle.privilege.specs.declared.check.AccessChecked.{AccessChecked}
 use Rattle.privilege.specs.declared.check.Permission.{Permission}
 use Rattle.privilege.specs.declared.check.Permission.the-variants.{Allowed, Denied, Refused}
+use Rattle.privilege.specs.declared.flat.access.Grant.{Grant}
 use Rattle.privilege.specs.declared.flat.access.Permit.{Permit}
 use Rattle.privilege.specs.declared.state.SystemState.{SystemState}
 use Rattle.privilege.specs.declared.transfer.DataRead.{DataRead}
@@ -41,7 +44,7 @@ use Rattle.script.specs.declared.Event.{Event}
 use Rattle.machine.specs.Access.{Result, isRead, accessAnswer, presented, asked, readOutcome, writeOutcome, moved, permitted, lookedUp, accessOf}
 use Rattle.machine.specs.Access.Laws.{asked-first, read-moved, write-moved, access-allowed, access-denied, access-refused, access-keeps}
 use Rattle.machine.specs.Event.{accessKind, storedBy}
-use Rattle.machine.specs.Flat.{cacheFrom, stateWords, machineAt, answerOf, accessedAs, Asks, Permits, checkedIn, ReadsPermitted, WritesPermitted, Accesses, AccessesAny, noAnswer}
+use Rattle.machine.specs.Flat.{cacheFrom, stateWords, machineAt, answerOf, accessedAs, Asks, Permits, checkedIn, ReadsPermitted, WritesPermitted, Accesses, AccessesAny, Grants, ReadsGranted, WritesGranted, noAnswer}
 use Rattle.machine.specs.State.{withSys, withCache}
 use Rattle.machine.specs.declared.access.Accessed.{Accessed}
 use Rattle.machine.specs.declared.access.Outcome.{Outcome}
@@ -64,17 +67,6 @@ module _ (d : DataRead) where
   pub read-refusal : (r : Refusal) → d ≡ read.Refused r → outcome.Refused r ≡ readOutcome d
   unfolding readOutcome
   read-refusal r h = rw h
-
--- a word that is there, and any other data
-module _ (base : ℕ) (bytes : List ℕ) (a n pa pb : ℕ) where
-  pub read-word-is : (good : Bool) (x : Content) (v : ℕ) → n ≡ 4 → a % 4096 ≤ 4092 → good ≡ goodMap base (length bytes) → good ≡ true
-      → x ≡ readAt (lent base bytes) (wordSpots pa) → x ≡ content.Value v → outcome.Value v ≡ readOutcome (loadAt (lent base bytes) n (rowsOf a n pa pb))
-  unfolding readOutcome
-  read-word-is good x v e page is t h q = rw (e, load-word (lent base bytes) a pa pb v (sym is ∙ t) page (sym h ∙ q))
-
-  pub read-rows-is : (d : DataRead) (o : Outcome) → d ≡ loadAt (lent base bytes) n (rowsOf a n pa pb) → o ≡ readOutcome d
-      → o ≡ readOutcome (loadAt (lent base bytes) n (rowsOf a n pa pb))
-  read-rows-is d o h q = q ∙ rw h
 
 module _ (d : DataWritten) where
   pub written-done : d ≡ written.Done → outcome.Value 0 ≡ writeOutcome d
@@ -226,10 +218,10 @@ module _ (l : List ℕ) (m : Memory) (a n : ℕ) (k : Access) (p : Permit) (r : 
   pub reads-refused : (e : Refusal) → p .permission ≡ Refused e → r ≡ answerOf (outcome.Refused e) 0 0 → ReadsPermitted l l m a n k p r
   reads-refused e h j = (refl, λ s at is. rw j (sym (ap accessed (refused-is m k a n 0 s (machineAt l) p at is e h))))
 
-  pub reads-allowed : (l₁ : List ℕ) (stall : ℕ) (o : Outcome) → isRead k ≡ true → a < 2 ^ 32 → p .permission ≡ Allowed → Asks l l₁ k (p .pa) stall
-      → o ≡ readOutcome (loadAt m n (rowsOf a n (p .pa) (p .pb))) → r ≡ answerOf o stall (p .reads) → ReadsPermitted l l₁ m a n k p r
-  reads-allowed l₁ stall o read small h w e j =
-      (w .0 .0, λ s at is. rw (j, e, w .0 .1, w .1) (sym (ap accessed (read-is m k a n 0 s (machineAt l) p at is h small read))))
+  pub reads-allowed : (l₁ : List ℕ) (stall : ℕ) (d : DataRead) (o : Outcome) → isRead k ≡ true → a < 2 ^ 32 → p .permission ≡ Allowed → Asks l l₁ k (p .pa) stall
+      → d ≡ loadAt m n (rowsOf a n (p .pa) (p .pb)) → o ≡ readOutcome d → r ≡ answerOf o stall (p .reads) → ReadsPermitted l l₁ m a n k p r
+  reads-allowed l₁ stall d o read small h w e q j =
+      (w .0 .0, λ s at is. rw (j, q, e, w .0 .1, w .1) (sym (ap accessed (read-is m k a n 0 s (machineAt l) p at is h small read))))
 
 pub ruleset reading = (reads-denied, reads-refused, reads-allowed)
 
@@ -254,6 +246,57 @@ module _ (l : List ℕ) (m : Memory) (a n v : ℕ) (p : Permit) (r : Answer) (by
       (w .0 .0, λ s at is. parts l₁ s _ (written-is m a n v s (machineAt l) p at is h small) (rw (j, q, e .0, w .0 .1, w .1)) (e .1))
 
 pub ruleset writing = (writes-denied, writes-refused, writes-allowed)
+
+-- ---- a word that is granted
+
+pub word-value : (x : Content) (v : ℕ) → x ≡ content.Value v → outcome.Value v ≡ readOutcome (readOf x)
+unfolding readOutcome
+word-value x v h = rw h
+
+pub word-outside : (x : Content) → x ≡ content.Outside → outcome.BusError ≡ readOutcome (readOf x)
+unfolding readOutcome
+word-outside x h = rw h
+
+pub word-done : (all : Bool) → all ≡ true → outcome.Value 0 ≡ writeOutcome (cond all written.Done written.BusError)
+unfolding writeOutcome
+word-done all h = rw h
+
+pub word-lost : (all : Bool) → all ≡ false → outcome.BusError ≡ writeOutcome (cond all written.Done written.BusError)
+unfolding writeOutcome
+word-lost all h = rw h
+
+pub ruleset word-outcomes = (word-value, word-outside, word-done, word-lost)
+
+pub map-is : (base : ℕ) (bytes : List ℕ) (good : Bool) → good ≡ goodMap base (length bytes) → good ≡ true → mapGood (lent base bytes) ≡ true
+map-is base bytes good is h = sym is ∙ h
+
+module _ (l : List ℕ) (m : Memory) (g : Grant) (r : Answer) (good : mapGood m ≡ true) where
+  pub granted-reads : (k : Access) (l₁ : List ℕ) (stall : ℕ) (x : Content) (o : Outcome) → isRead k ≡ true → Asks l l₁ k (g .pa) stall → x ≡ readAt m (wordSpots (g .pa))
+      → o ≡ readOutcome (readOf x) → r ≡ answerOf o stall (g .reads) → ReadsGranted l l₁ m k g r
+  granted-reads k l₁ stall x o read w is e j a at =
+      reads-allowed l m a 4 k (permitFor g) r l₁ stall (readOf x) o read (at .0) refl w (rw (is, word-loaded m a (g .pa) 0 good (at .1))) e j
+
+  pub granted-writes : (v : ℕ) (bytes : List ℕ) (l₁ : List ℕ) (stall : ℕ) (all : Bool) (o : Outcome) → Asks l l₁ Write (g .pa) stall
+      → (all ≡ allWritable m (wordSpots (g .pa))) × (bytes ≡ putAt m (wordSpots (g .pa)) (bytesOf 4 v) .bytes)
+      → o ≡ writeOutcome (cond all written.Done written.BusError) → r ≡ answerOf o stall (g .reads) → WritesGranted l l₁ m v g r bytes
+  granted-writes v bytes l₁ stall all o w is e j a at =
+      writes-allowed l m a 4 v (permitFor g) r bytes l₁ stall (cond all written.Done written.BusError) o (at .0) refl w
+      (rw (is .0, word-stored m a (g .pa) 0 good (at .1)), is .1 ∙ rw (word-left m a (g .pa) 0 good (at .1) v)) e j
+
+module _ (l : List ℕ) (m : Memory) (a n : ℕ) (k : Access) (g : Grant) where
+  pub grants-word : (new : List ℕ) → a < 2 ^ 32 → length l ≡ stateWords → length new ≡ length (part 0 systemWords l) → n ≡ 4 → mapGood m ≡ true
+      → SysGrants m (part 0 systemWords l) a k g new → Grants l (put 0 systemWords l new) m a n k g
+  unfolding machineAt
+  grants-word new small long same four good w =
+      let size : length new ≡ systemWords = same ∙ sys-long l long in (
+        (λ h.
+            let is = grant-permits m (part 0 systemWords l) a k g new (sys-long l long) w good h in
+            (four, good, (small, is .0), rw four (check-permits l new m a 4 k (permitFor g) long same (is .1)))),
+        (λ h. let is = grant-stays m (part 0 systemWords l) a k g new (sys-long l long) w h in (sys-left l long new size, sys-put l long new size ∙ rw (is .0, is .1))),
+      )
+
+  pub grants-none : g .granted ≡ false → Grants l l m a n k g
+  grants-none e = (λ h. absurd-eq (cc), λ h. (refl, refl))
 
 -- ---- a whole access
 
@@ -338,6 +381,9 @@ pub ruleset anywhere = (any-none, any-read, any-written)
 
 -- ---- the access of an event
 
+abbrev Event′ : List ℕ → List ℕ → ℕ → List ℕ → Event → Answer → List ℕ → Type 0
+Event′ l l′ base bytes e r bytes′ = (length l′ ≡ length l) × Accesses l l′ (accessKind (e .kind)) (lent base bytes) (e .a) (e .size) (storedBy e) r bytes′
+
 module _ (l l₁ l₂ : List ℕ) (base : ℕ) (bytes : List ℕ) (e : Event) (k : Access) (p : Permit) (r : Answer) (is : k ≡ accessKind (e .kind))
     (w : Permits l l₁ (lent base bytes) (e .a) (e .size) k p) where
   pub event-read : (e .kind ≡ 1 → ⊥) → ReadsPermitted l₁ l₂ (lent base bytes) (e .a) (e .size) k p r
@@ -351,3 +397,17 @@ module _ (l l₁ l₂ : List ℕ) (base : ℕ) (bytes : List ℕ) (e : Event) (k
   event-written bytes′ h q =
       let store : k ≡ Write = is ∙ rw h in
       (q .0 ∙ w .0 .0, rw h (access-write-whole l l₁ l₂ (lent base bytes) (e .a) (e .size) (e .b) p r bytes′ (rw store at w) q))
+
+module _ (l l₁ : List ℕ) (base : ℕ) (bytes : List ℕ) (e : Event) (k : Access) (g : Grant) (w : Grants l l₁ (lent base bytes) (e .a) (e .size) k g) where
+  pub word-good : g .granted ≡ true → mapGood (lent base bytes) ≡ true
+  word-good h = w .0 h .1
+
+  module _ (l₂ : List ℕ) (r : Answer) (is : k ≡ accessKind (e .kind)) where
+    pub event-read-word : g .granted ≡ true → (e .kind ≡ 1 → ⊥) → ReadsGranted l₁ l₂ (lent base bytes) k g r → Event′ l l₂ base bytes e r bytes
+    event-read-word h kind q = event-read l l₁ l₂ base bytes e k (permitFor g) r is (w .0 h .3) kind (rw (w .0 h .0) (q (e .a) (w .0 h .2)))
+
+    pub event-written-word : g .granted ≡ true → (bytes′ : List ℕ) → e .kind ≡ 1 → WritesGranted l₁ l₂ (lent base bytes) (e .b) g r bytes′ → Event′ l l₂ base bytes e r bytes′
+    event-written-word h bytes′ kind q = event-written l l₁ l₂ base bytes e k (permitFor g) r is (w .0 h .3) bytes′ kind (rw (w .0 h .0) (q (e .a) (w .0 h .2)))
+
+  pub event-other : (l₂ : List ℕ) (r : Answer) → g .granted ≡ false → (bytes′ : List ℕ) → Event′ l₁ l₂ base bytes e r bytes′ → Event′ l l₂ base bytes e r bytes′
+  event-other l₂ r h bytes′ q = let still = w .1 h in (q .0 ∙ still .0, rw (still .1) at (q .1))

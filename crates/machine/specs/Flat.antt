@@ -8,12 +8,15 @@
 --   Asks l l′ k pa r       == the cache is asked at pa and costs r
 --   Permits l l′ m a n k r == the check of an access leaves its state and permits r
 --   ReadsPermitted, WritesPermitted == an access after its check: what it answers and leaves, if the check made this permit and this state
+--   Grants l l′ m a n k g  == the check of a word inside its page, over a good map, where it allows: as the permit of the grant g; elsewhere the machine stays
+--   ReadsGranted, WritesGranted == a word that is granted, at any address inside its page: an access after its check
 --   Accesses l l′ k m a n v r bytes == a whole access: it answers r and leaves the memory's bytes
 --   Shows l l′ r s         == an event of the state alone comes to s
 --   Steps l l′ base bytes e r bytes′ == any event: it shows the line r and leaves the memory's bytes
 --   AccessesAny, StepsAny  == both over any number of words: where there are not as many as a machine has, nothing moves
-use Prim.Native.Nat.{ℕ, _+_, _%_, _^_}
+use Prim.Native.Nat.{ℕ, _+_, _%_, _^_, _≤_, _<_}
 use mathlib.Core.Path.{_≡_}
+use mathlib.Core.Bool.{true, false}
 use mathlib.Core.List.{List}
 use lib.ListN.{length}
 use Rattle.cache.specs.Flat.{cacheWords, cacheAt}
@@ -21,12 +24,14 @@ use Rattle.common.specs.declared.Refusal.the-variants as refusal
 use Rattle.irqc.specs.declared.IrqController.{IrqController}
 use Rattle.layout.specs.Words.{part, wordAt, Over}
 use Rattle.listing.specs.declared.Line.{Line}
+use Rattle.memory.specs.Gate.{mapGood}
 use Rattle.memory.specs.Memory.{Memory, lent}
 use Rattle.mmu.specs.declared.exception.Access.{Access}
 use Rattle.mmu.specs.declared.exception.Access.the-variants.{Write}
 use Rattle.privilege.specs.Access.{checkAccess}
 use Rattle.privilege.specs.Flat.{systemWords, sysAt, regAt}
-use Rattle.privilege.specs.Flat.Access.{permitOf}
+use Rattle.privilege.specs.Flat.Access.{permitOf, permitFor}
+use Rattle.privilege.specs.declared.flat.access.Grant.{Grant}
 use Rattle.privilege.specs.declared.flat.access.Permit.{Permit}
 use Rattle.privilege.specs.declared.state.SystemState.{SystemState}
 use Rattle.script.specs.declared.Event.{Event}
@@ -102,6 +107,20 @@ WritesPermitted l l′ m a n v permit r bytes =
     (length l′ ≡ length l)
     × ((s : SystemState) → machineAt l .sys ≡ checkAccess m s a n Write .sys → permit ≡ permitOf (checkAccess m s a n Write) a n
     → (accessedAs r (machineAt l′) ≡ checkedIn s (machineAt l) m a n v Write .accessed) × (bytes ≡ checkedIn s (machineAt l) m a n v Write .memory .bytes))
+
+-- an address of a word inside its page
+abbrev pub InPage : ℕ → Type 0
+InPage a = (a < 2 ^ 32) × (a % 4096 ≤ 4092)
+
+abbrev pub Grants : List ℕ → List ℕ → Memory → ℕ → ℕ → Access → Grant → Type 0
+Grants l l′ m a n k g =
+    (g .granted ≡ true → (n ≡ 4) × (mapGood m ≡ true) × InPage a × Permits l l′ m a n k (permitFor g)) × (g .granted ≡ false → Left l l′ (machineAt l))
+
+abbrev pub ReadsGranted : List ℕ → List ℕ → Memory → Access → Grant → Answer → Type 0
+ReadsGranted l l′ m k g r = (a : ℕ) → InPage a → ReadsPermitted l l′ m a 4 k (permitFor g) r
+
+abbrev pub WritesGranted : List ℕ → List ℕ → Memory → ℕ → Grant → Answer → List ℕ → Type 0
+WritesGranted l l′ m v g r bytes = (a : ℕ) → InPage a → WritesPermitted l l′ m a 4 v (permitFor g) r bytes
 
 abbrev pub Accesses : List ℕ → List ℕ → Access → Memory → ℕ → ℕ → ℕ → Answer → List ℕ → Type 0
 Accesses l l′ k m a n v r bytes =

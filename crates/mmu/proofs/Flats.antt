@@ -12,8 +12,8 @@ use Rattle.common.specs.Cases.{absurd-eq}
 use Rattle.common.specs.Lists.{mapTo, mapTo-none, mapTo-next, mapTo-done, overTo, overTo-none, overTo-next, overTo-done}
 use Rattle.layout.specs.Words.{part, wordAt, onAt, bitWord, Reads, part-length, reads-all}
 use Rattle.memory.specs.Memory.{Memory}
-use Rattle.mmu.specs.Check.{pageAddr, faulted, judged, lastPage}
-use Rattle.mmu.specs.Flat.{tlbStart, tlbWords, vmWords, pagesIs, pagesAs, CheckedPages, CheckedPage, WalkedPage, entryAt, vmAt, slotAt, withEntry, withRegisters, droppedWord}
+use Rattle.mmu.specs.Check.{pageAddr, permits, faulted, judged, checked, lastPage}
+use Rattle.mmu.specs.Flat.{tlbStart, tlbWords, vmWords, pagesIs, pagesAs, CheckedPages, CheckedPage, WalkedPage, grantTo, noGrant, GrantedBy, GrantsPage, GrantsWalk, entryAt, vmAt, slotAt, withEntry, withRegisters, droppedWord}
 use Rattle.mmu.specs.Flat.Laws.{wordsOf, bit-on, tlb-slots, entry-is, slot-is, word-is, vm-enabled, vm-ptbr, vm-vfault, vm-victim, vm-word, vm-entry}
 use Rattle.mmu.specs.Opened.Laws.{walked-matches}
 use Rattle.mmu.specs.Tlb.{noEntry, noEntries, matches, firstMatch, dropped, droppedPage}
@@ -21,6 +21,7 @@ use Rattle.mmu.specs.Tlb.Laws.{found-after-fill}
 use Rattle.mmu.specs.Vm.{newVm, withTlb, victim, filled, flushed, invalidated, slotOf, frameOf}
 use Rattle.mmu.specs.Vm.Laws.{frame-same}
 use Rattle.mmu.specs.Walk.{walkOf}
+use Rattle.mmu.specs.declared.check.Checked.{Checked}
 use Rattle.mmu.specs.declared.check.Verdict.{Verdict}
 use Rattle.mmu.specs.declared.check.Verdict.the-variants.{Allowed, Denied}
 use Rattle.mmu.specs.declared.exception.Access.{Access}
@@ -29,6 +30,7 @@ use Rattle.mmu.specs.declared.exception.Exception.the-variants.{BusError
 use Rattle.mmu.specs.declared.flat.Pages.{Pages}
 use Rattle.mmu.specs.declared.tlb.Slot.the-variants.{At, Nothing}
 use Rattle.mmu.specs.declared.tlb.TlbEntry.{TlbEntry}
+use Rattle.mmu.specs.declared.flat.PageGrant.{PageGrant}
 use Rattle.mmu.specs.declared.vm.Vm.{Vm}
 use Rattle.mmu.specs.declared.walk.Walked.the-variants as walked
 use Rattle.mmu.specs.declared.walk.WalkAnswer.{WalkAnswer}
@@ -243,6 +245,66 @@ module _ (m : Memory) (k : Access) (va : ℕ) (l : List ℕ) (x : Pages) where
         )
 
 pub ruleset pages = (page-denied, page-found, page-walks, page-missing, page-bus, page-leaf)
+
+-- ---- a grant, by the check of the page
+
+grant-opens : (c : Checked) (va : ℕ) (v : Vm) (x : PageGrant) (v′ : Vm) (p n : ℕ) → c ≡ checked v′ Allowed n → frameOf v′ va ≡ p → x ≡ grantTo p n → GrantedBy c va v x v′
+grant-opens c va v x v′ p n is f e = (e ∙ rw (is, f), rw is)
+
+grant-shuts : (c : Checked) (va : ℕ) (v v′ : Vm) (x : PageGrant) (e : Exception) (n : ℕ) → c ≡ checked v′ (Denied e) n → x ≡ noGrant → GrantedBy c va v x v
+grant-shuts c va v v′ x e n is q = (q ∙ rw is, rw is)
+
+-- what the entry grants is what is judged
+judged-open : (t : TlbEntry) (k : Access) (va : ℕ) (b : Bool) → b ≡ permits t k → b ≡ true → judged t k va ≡ Allowed
+unfolding judged
+judged-open t k va b is on = rw (← is, on)
+
+judged-shut : (t : TlbEntry) (k : Access) (va : ℕ) (b : Bool) → b ≡ permits t k → b ≡ false → judged t k va ≡ faulted k true va
+unfolding judged
+judged-shut t k va b is off = rw (← is, off)
+
+module _ (m : Memory) (k : Access) (va : ℕ) (l : List ℕ) (x : PageGrant) where
+  pub grant-reserved : 0xFFFF_0000 ≤ pageAddr (va / 4096) → x ≡ noGrant → GrantsPage m k va (vmAt l) x (vmAt l)
+  grant-reserved h e = grant-shuts _ va (vmAt l) (vmAt l) x _ 0 (sym (page-reserved m (vmAt l) k va _ _ h refl refl)) e
+
+  module _ (slot : ℕ) (t : TlbEntry) (b : Bool) (h : pageAddr (va / 4096) < 0xFFFF_0000) (few : slot < 16) (f : slotOf (vmAt l) va ≡ slotAt slot)
+      (g : t ≡ getD (vmAt l .tlb) slot noEntry) (is : b ≡ permits t k) where
+    there : (v : Verdict) → judged t k va ≡ v → CheckedPage m k va (vmAt l) (pagesIs v (t .ppn) 0) (vmAt l)
+    there v j = page-found m k va l (pagesIs v (t .ppn) 0) slot t v h few f g (sym j) refl
+
+    pub grant-resident : b ≡ true → x ≡ grantTo (t .ppn) 0 → GrantsPage m k va (vmAt l) x (vmAt l)
+    grant-resident on e =
+        let open′ = there Allowed (judged-open t k va b is on) in
+        grant-opens _ va (vmAt l) x (vmAt l) (t .ppn) 0 (sym (open′ .0)) (open′ .1 refl) e
+
+    pub grant-denied : b ≡ false → x ≡ noGrant → GrantsPage m k va (vmAt l) x (vmAt l)
+    grant-denied off e = grant-shuts _ va (vmAt l) (vmAt l) x _ 0 (sym (there _ (judged-shut t k va b is off) .0)) e
+
+  pub grant-walks : (slot : ℕ) (l′ : List ℕ) → pageAddr (va / 4096) < 0xFFFF_0000 → 16 ≤ slot → slotOf (vmAt l) va ≡ slotAt slot
+      → GrantsWalk m k va (vmAt l) x (vmAt l′) → GrantsPage m k va (vmAt l) x (vmAt l′)
+  unfolding slotAt
+  grant-walks slot l′ h b f w =
+      let none : slotOf (vmAt l) va ≡ Nothing = rw (le-ltb slot 16 b) at f in
+      let same = page-walked m (vmAt l) k va _ Nothing h (sym none) refl refl in
+      rw same at (w none)
+
+  module _ (w : WalkAnswer) (is : w ≡ walkOf m (getD l 1 0) va) where
+    pub grant-missing : w .walked ≡ walked.Missing → x ≡ noGrant → GrantsWalk m k va (vmAt l) x (vmAt l)
+    grant-missing p e none = grant-shuts _ va (vmAt l) (vmAt l) x _ (w .reads) (sym (page-missing m k va l (pagesIs (faulted k false va) 0 (w .reads)) w is _ p refl refl none .0)) e
+
+    pub grant-bus : w .walked ≡ walked.BusError → x ≡ noGrant → GrantsWalk m k va (vmAt l) x (vmAt l)
+    grant-bus p e none = grant-shuts _ va (vmAt l) (vmAt l) x _ (w .reads) (sym (page-bus m k va l (pagesIs (Denied BusError) 0 (w .reads)) w is p refl none .0)) e
+
+    module _ (t : TlbEntry) (b : Bool) (p : w .walked ≡ walked.Leaf t) (may : b ≡ permits t k) where
+      pub grant-leaf : (l′ : List ℕ) → b ≡ true → vmAt l′ ≡ filled (vmAt l) t → x ≡ grantTo (t .ppn) (w .reads) → GrantsWalk m k va (vmAt l) x (vmAt l′)
+      grant-leaf l′ on q e none =
+          let open′ = page-leaf m k va l (pagesIs Allowed (t .ppn) (w .reads)) w is t Allowed l′ p q (sym (judged-open t k va b may on)) refl none in
+          grant-opens _ va (vmAt l) x (vmAt l′) (t .ppn) (w .reads) (sym (open′ .0)) (open′ .1 refl) e
+
+      pub grant-shut : b ≡ false → x ≡ noGrant → GrantsWalk m k va (vmAt l) x (vmAt l)
+      grant-shut off e none = grant-shuts _ va (vmAt l) (filled (vmAt l) t) x _ (w .reads) (sym (walk-leaf (vmAt l) k va _ w (walks m k va l (pagesIs Allowed 0 0) w is) _ t (filled (vmAt l) t) _ p refl (sym (judged-shut t k va b may off)) refl)) e
+
+pub ruleset grantings = (grant-reserved, grant-resident, grant-denied, grant-walks, grant-missing, grant-bus, grant-leaf, grant-shut)
 
 -- ---- the page loop
 

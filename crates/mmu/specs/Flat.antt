@@ -10,13 +10,16 @@
 --   CheckedPages m k a n v r v′ == the check of the pages of n bytes at a takes v to v′ and answers r. Where it is allowed, r's frame is that of
 --                           the last page, and so of an access that stays in its page
 --   CheckedPage, WalkedPage == the same of one page, and of one that is not resident
+--   grantTo p n, noGrant == the answers of `grant_page`: the page leads to p, after n words read; or the access is not granted
+--   GrantedBy c va v r v′ == the check c of va's page, made in v, as a grant: where it denies, there is none and the state stays
+--   GrantsPage, GrantsWalk == the same of a page's check, and of one that is not resident
 --   slotAt i             == a slot number as the search answers it: 16 is none
 --   withEntry v i e      == the same state with another entry in a slot
 --   withRegisters v on p f == the same TLB with other registers
 --   droppedWord p vpn w  == the valid word of an entry of page vpn, once page p is dropped
 use Prim.Native.Nat.{ℕ, _+_, _*_, _%_, _^_, _≤_, _<_}
 use mathlib.Core.Path.{_≡_}
-use mathlib.Core.Bool.{Bool, cond}
+use mathlib.Core.Bool.{Bool, true, false, cond}
 use mathlib.Core.List.{List}
 use lib.Dec.{eqb, ltb}
 use lib.ListN.{set}
@@ -31,6 +34,7 @@ use Rattle.mmu.specs.declared.check.Verdict.{Verdict}
 use Rattle.mmu.specs.declared.check.Verdict.the-variants.{Allowed, Denied}
 use Rattle.mmu.specs.declared.exception.Access.{Access}
 use Rattle.mmu.specs.declared.exception.Exception.the-variants.{BusError}
+use Rattle.mmu.specs.declared.flat.PageGrant.{PageGrant}
 use Rattle.mmu.specs.declared.flat.Pages.{Pages}
 use Rattle.mmu.specs.declared.tlb.Slot.{Slot}
 use Rattle.mmu.specs.declared.tlb.Slot.the-variants.{At, Nothing}
@@ -91,6 +95,32 @@ CheckedPage m k va v r v′ = (pagesAs r v′ ≡ checkPage m v k va) × (r .ver
 abbrev pub WalkedPage : Memory → Access → ℕ → Vm → Pages → Vm → Type 0
 WalkedPage m k va v r v′ =
     slotOf v va ≡ Nothing → (pagesAs r v′ ≡ bySlot v k va (walkOf m (v .ptbr) va) Nothing) × (r .verdict ≡ Allowed → frameOf v′ va ≡ r .ppn)
+
+-- ---- a grant
+
+abbrev pub grantTo : ℕ → ℕ → PageGrant
+grantTo ppn n = record { granted = true; ppn = ppn; reads = n }
+
+abbrev pub noGrant : PageGrant
+noGrant = record { granted = false; ppn = 0; reads = 0 }
+
+abbrev pub grantIf : Verdict → PageGrant → PageGrant
+grantIf Allowed g = g
+grantIf (Denied e) g = noGrant
+
+-- the state that a check leaves where it allows, else the one before it
+abbrev pub leftIf : Verdict → Vm → Vm → Vm
+leftIf Allowed after before = after
+leftIf (Denied e) after before = before
+
+abbrev pub GrantedBy : Checked → ℕ → Vm → PageGrant → Vm → Type 0
+GrantedBy c va v r v′ = (r ≡ grantIf (c .verdict) (grantTo (frameOf (c .vm) va) (c .reads))) × (v′ ≡ leftIf (c .verdict) (c .vm) v)
+
+abbrev pub GrantsPage : Memory → Access → ℕ → Vm → PageGrant → Vm → Type 0
+GrantsPage m k va v r v′ = GrantedBy (checkPage m v k va) va v r v′
+
+abbrev pub GrantsWalk : Memory → Access → ℕ → Vm → PageGrant → Vm → Type 0
+GrantsWalk m k va v r v′ = slotOf v va ≡ Nothing → GrantedBy (bySlot v k va (walkOf m (v .ptbr) va) Nothing) va v r v′
 
 -- ---- parts that change
 

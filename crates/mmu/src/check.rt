@@ -33,7 +33,7 @@ fn found(vm: Vm, verdict: Verdict, reads: u32) -> Checked
     Checked { vm, verdict, reads }
 }
 
-fn grants(entry: TlbEntry, access: Access) -> bool
+pub(crate) fn grants(entry: TlbEntry, access: Access) -> bool
     ensures { λ r. ⌜ r ≡ permits entry access ⌝ }
 {
     if entry.flags & PTE_U == 0 {

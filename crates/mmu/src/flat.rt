@@ -7,12 +7,13 @@ ghost use Prim.Native.Nat.{_+_, _*_, _/_, _^_, _<_, _≤_};
 ghost use lib.ListN.{length, getD};
 ghost use Rattle.layout.specs.Words.{bitWord, Over, Reads};
 ghost use Rattle.memory.specs.Memory.{lent};
-ghost use Rattle.mmu.specs.Flat.{vmWords, noPages, pagesIs, CheckedPages, CheckedPage, WalkedPage, vmAt, slotAt, withEntry, withRegisters, droppedWord};
+ghost use Rattle.mmu.specs.Flat.{vmWords, noPages, pagesIs, CheckedPages, CheckedPage, WalkedPage, grantTo, noGrant, GrantsPage, GrantsWalk, vmAt, slotAt, withEntry, withRegisters, droppedWord};
 ghost use Rattle.mmu.specs.Tlb.{noEntry, firstMatch};
 ghost use Rattle.mmu.specs.Vm.{newVm, filled, flushed, invalidated, frameOf, withTlb};
 use crate::check::CPU_RESERVED_BASE;
 use crate::check::Verdict;
 use crate::check::fault;
+use crate::check::grants;
 use crate::check::judge;
 use crate::exception::Access;
 use crate::exception::Exception;
@@ -316,4 +317,75 @@ pub fn check_pages(
         page += 1;
         va = page << 12;
     }
+}
+
+// Whether a page is open to an access, and where it then leads.
+pub struct PageGrant {
+    pub granted: bool,
+    // The physical page, and the table words read; 0 where the access is not granted.
+    pub ppn: u32,
+    pub reads: u32,
+}
+
+fn grant(ppn: u32, reads: u32) -> PageGrant
+    ensures { λ r. ⌜ r ≡ grantTo ppn reads ⌝ }
+{
+    PageGrant {
+        granted: true,
+        ppn,
+        reads,
+    }
+}
+
+fn no_grant() -> PageGrant
+    ensures { λ r. ⌜ r ≡ noGrant ⌝ }
+{
+    PageGrant {
+        granted: false,
+        ppn: 0,
+        reads: 0,
+    }
+}
+
+// A page that is not resident. A leaf that does not grant the access is left to the check, which fills and says why.
+fn grant_walk(vm: &mut [u32], mem: &[u8], base: u32, va: u32, access: Access) -> PageGrant
+    requires { ⌜ length (now vm) ≡ vmWords ⌝ }
+    ensures { λ r. ⌜ GrantsWalk (lent base (now (mem .entry))) access va (vmAt (now (vm .entry))) r (vmAt (now (vm .exit))) ⌝ }
+{
+    let answer = walk(mem, base, vm[PTBR], va);
+    let walked = answer.walked;
+    match walked {
+        Walked::Leaf(leaf) => {
+            if grants(leaf, access) {
+                fill(vm, leaf);
+                return grant(leaf.ppn, answer.reads);
+            }
+            no_grant()
+        }
+        Walked::Missing => no_grant(),
+        Walked::BusError => no_grant(),
+    }
+}
+
+// The check of one page for an access that it allows. Where it would deny nothing is done: the check is then to be asked. Its answer has no
+// exception in it, so that the compiler keeps it in registers.
+pub fn grant_page(vm: &mut [u32], mem: &[u8], base: u32, va: u32, access: Access) -> PageGrant
+    ensures { λ r. ⌜ Over vmWords (now (vm .entry)) (now (vm .exit)) r noGrant (GrantsPage (lent base (now (mem .entry))) access va (vmAt (now (vm .entry))) r (vmAt (now (vm .exit)))) ⌝ }
+{
+    if vm.len() != VM_WORDS {
+        return no_grant();
+    }
+    let page = va >> 12;
+    if page << 12 >= CPU_RESERVED_BASE {
+        return no_grant();
+    }
+    let slot = slot_of(vm, page);
+    if slot < TLB_ENTRIES {
+        let entry = entry_at(vm, slot);
+        if grants(entry, access) {
+            return grant(entry.ppn, 0);
+        }
+        return no_grant();
+    }
+    grant_walk(vm, mem, base, va, access)
 }

@@ -1,14 +1,14 @@
 // The combined access where the machine's words stand: check; the cache once, at the first byte's physical address; memory.
 ghost use mathlib.Core.Path.{_≡_};
-ghost use mathlib.Core.Bool.{true};
+ghost use mathlib.Core.Bool.{true, cond};
 ghost use lib.ListN.{length};
+ghost use Rattle.memory.specs.Gate.{mapGood};
 ghost use Rattle.memory.specs.Memory.{lent};
 ghost use Rattle.mmu.specs.declared.exception.Access.the-variants.{Read, Write, Fetch};
-ghost use Rattle.privilege.specs.Rows.{rowsOf};
-ghost use Rattle.privilege.specs.Transfer.{loadAt};
+ghost use Rattle.privilege.specs.Transfer.{readOf};
 ghost use Rattle.machine.specs.Access.{isRead, readOutcome, writeOutcome};
 ghost use Rattle.machine.specs.Event.{accessKind, storedBy};
-ghost use Rattle.machine.specs.Flat.{stateWords, noAnswer, answerOf, Asks, Permits, ReadsPermitted, WritesPermitted, Accesses, AccessesAny};
+ghost use Rattle.machine.specs.Flat.{stateWords, noAnswer, answerOf, Asks, Permits, ReadsPermitted, WritesPermitted, Accesses, AccessesAny, Grants, ReadsGranted, WritesGranted};
 use crate::access::Outcome;
 use crate::flat::state::CACHE;
 use crate::flat::state::CACHE_END;
@@ -19,9 +19,11 @@ use common::Refusal;
 use memory::Content;
 use memory::good_map;
 use memory::read_word;
+use memory::span::put_word;
 use mmu::exception::Access;
 use privilege::check::Permission;
 use privilege::flat as system_words;
+use privilege::flat::access::Grant;
 use privilege::flat::access::Permit;
 use privilege::rows::read_rows;
 use privilege::rows::write_rows;
@@ -74,23 +76,6 @@ fn write_outcome(written: DataWritten) -> Outcome
     }
 }
 
-// What a load or fetch answers whose bytes are there. A word inside its page and the map is frequent: it is asked first, and its value is the answer.
-fn read_at(mem: &[u8], base: u32, addr: u32, size: u32, pa: u32, pb: u32) -> Outcome
-    ensures { λ r. ⌜ r ≡ readOutcome (loadAt (lent base (now (mem .entry))) size (rowsOf addr size pa pb)) ⌝ }
-{
-    if size == 4 {
-        if addr % PAGE_SIZE <= PAGE_SIZE - 4 {
-            if good_map(mem, base) {
-                let content = read_word(mem, base, pa);
-                if let Content::Value(v) = content {
-                    return Outcome::Value(v);
-                }
-            }
-        }
-    }
-    read_outcome(read_rows(mem, base, addr, size, pa, pb))
-}
-
 // The cache, asked at an address, and what that costs. A store costs nothing.
 fn ask(state: &mut [u32], access: Access, pa: u32) -> u32
     requires { ⌜ length (now state) ≡ stateWords ⌝ }
@@ -135,8 +120,8 @@ fn read_permitted(
     match permission {
         Permission::Allowed => {
             let stall = ask(state, access, permit.pa);
-            let outcome = read_at(mem, base, addr, size, permit.pa, permit.pb);
-            answer_of(outcome, stall, permit.reads)
+            let data = read_rows(mem, base, addr, size, permit.pa, permit.pb);
+            answer_of(read_outcome(data), stall, permit.reads)
         }
         Permission::Denied(e) => answer_of(Outcome::Exception(e), 0, permit.reads),
         Permission::Refused(r) => answer_of(Outcome::Refused(r), 0, 0),
@@ -206,6 +191,74 @@ pub fn store(
     write_permitted(state, mem, base, addr, size, value, permit)
 }
 
+// ---- a word that is granted at once
+
+fn word_outcome(content: Content) -> Outcome
+    ensures { λ r. ⌜ r ≡ readOutcome (readOf content) ⌝ }
+{
+    match content {
+        Content::Value(v) => Outcome::Value(v),
+        Content::Outside => Outcome::BusError,
+    }
+}
+
+fn stored_outcome(all: bool) -> Outcome
+    ensures { λ r. ⌜ r ≡ writeOutcome (cond all DataWritten.Done DataWritten.BusError) ⌝ }
+{
+    if all {
+        Outcome::Value(0)
+    } else {
+        Outcome::BusError
+    }
+}
+
+// The check of a word inside its page, over a good map, by the privilege state's words. Other accesses are not asked for; where the page ends is tested before
+// the map, so that one over two pages is soon on its own way.
+fn grant_word(
+    state: &mut [u32],
+    mem: &[u8],
+    base: u32,
+    addr: u32,
+    size: u8,
+    access: Access,
+) -> Grant
+    requires { ⌜ length (now state) ≡ stateWords ⌝ }
+    ensures { λ r. ⌜ Grants (now (state .entry)) (now (state .exit)) (lent base (now (mem .entry))) addr size access r ⌝ }
+{
+    if size == 4 && addr % PAGE_SIZE <= PAGE_SIZE - 4 {
+        if good_map(mem, base) {
+            let s = SYSTEM;
+            let c = CACHE;
+            return system_words::access::grant_word(&mut state[s..c], mem, base, addr, access);
+        }
+    }
+    Grant {
+        granted: false,
+        pa: 0,
+        reads: 0,
+    }
+}
+
+fn read_granted(state: &mut [u32], mem: &[u8], base: u32, access: Access, grant: Grant) -> Answer
+    requires { ⌜ (length (now state) ≡ stateWords) × (isRead access ≡ true) × (mapGood (lent base (now mem)) ≡ true) ⌝ }
+    ensures { λ r. ⌜ ReadsGranted (now (state .entry)) (now (state .exit)) (lent base (now (mem .entry))) access grant r ⌝ }
+{
+    let stall = ask(state, access, grant.pa);
+    let content = read_word(mem, base, grant.pa);
+    answer_of(word_outcome(content), stall, grant.reads)
+}
+
+fn write_granted(state: &mut [u32], mem: &mut [u8], base: u32, value: u32, grant: Grant) -> Answer
+    requires { ⌜ (length (now state) ≡ stateWords) × (mapGood (lent base (now mem)) ≡ true) ⌝ }
+    ensures { λ r. ⌜ WritesGranted (now (state .entry)) (now (state .exit)) (lent base (now (mem .entry))) value grant r (now (mem .exit)) ⌝ }
+{
+    let stall = ask(state, Access::Write, grant.pa);
+    let all = put_word(mem, base, grant.pa, value);
+    answer_of(stored_outcome(all), stall, grant.reads)
+}
+
+// ---- an event
+
 // The access of kinds 0 to 2.
 fn access_of(kind: u8) -> Access
     ensures { λ r. ⌜ r ≡ accessKind kind ⌝ }
@@ -217,8 +270,8 @@ fn access_of(kind: u8) -> Access
     }
 }
 
-// Kinds 0 to 2. The check has one call, whatever the kind is.
-pub(crate) fn access_event(state: &mut [u32], mem: &mut [u8], base: u32, e: Event) -> Answer
+// Any access: the check has one call, whatever the kind is.
+fn access_any(state: &mut [u32], mem: &mut [u8], base: u32, e: Event) -> Answer
     requires { ⌜ length (now state) ≡ stateWords ⌝ }
     ensures { λ r. ⌜ (length (now (state .exit)) ≡ length (now (state .entry))) × Accesses (now (state .entry)) (now (state .exit)) (accessKind (e .kind)) (lent base (now (mem .entry))) (e .a) (e .size) (storedBy e) r (now (mem .exit)) ⌝ }
 {
@@ -229,4 +282,21 @@ pub(crate) fn access_event(state: &mut [u32], mem: &mut [u8], base: u32, e: Even
         return write_permitted(state, mem, base, e.a, size, e.b, permit);
     }
     read_permitted(state, mem, base, e.a, size, access, permit)
+}
+
+// Kinds 0 to 2. A word that is granted at once is frequent: its answer never meets those of the other ways, which the compiler would keep in memory. So
+// these have one call too: it makes them a part of this function.
+pub(crate) fn access_event(state: &mut [u32], mem: &mut [u8], base: u32, e: Event) -> Answer
+    requires { ⌜ length (now state) ≡ stateWords ⌝ }
+    ensures { λ r. ⌜ (length (now (state .exit)) ≡ length (now (state .entry))) × Accesses (now (state .entry)) (now (state .exit)) (accessKind (e .kind)) (lent base (now (mem .entry))) (e .a) (e .size) (storedBy e) r (now (mem .exit)) ⌝ }
+{
+    let access = access_of(e.kind);
+    let grant = grant_word(state, mem, base, e.a, e.size, access);
+    if grant.granted {
+        if e.kind == 1 {
+            return write_granted(state, mem, base, e.b, grant);
+        }
+        return read_granted(state, mem, base, access, grant);
+    }
+    access_any(state, mem, base, e)
 }

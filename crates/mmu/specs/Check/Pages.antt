@@ -2,18 +2,20 @@
 --
 --   VmKept vm vm′     == the same VCTL, PTBR and VFAULT, and as many TLB slots
 --   pages-keep        == the check of pages leaves these, whatever it answers
+--   each-page         == the check of one page alone is that page's
 --   pages-reads       == it reads at most two words for each page
 --   pages-same        == it depends on memory only through the walks of its pages
 use Prim.Native.Nat.{ℕ, _+_, _*_, _/_, _≤_}
 use mathlib.Core.Path.{_≡_, refl, ap, _∙_}
 use mathlib.Core.List.{List, [], _∷_}
+use native.Mathlib.Nat.{add-zero}
 use native.Mathlib.Omega.{arith}
 use lib.Dec.{lit≤}
 use lib.ListN.{length, length-set}
 use Rattle.common.specs.Cases.{cond-holds}
 use Rattle.common.specs.Lists.{Each}
 use Rattle.memory.specs.Memory.{Memory}
-use Rattle.mmu.specs.Check.{pageAddr, belowReserved, byWalk, bySlot, checkWith, checkPage, afterPage, checkEach}
+use Rattle.mmu.specs.Check.{pageAddr, belowReserved, checked, byWalk, bySlot, checkWith, checkPage, afterPage, checkEach}
 use Rattle.mmu.specs.Check.Laws.{page-reads}
 use Rattle.mmu.specs.Vm.{victim, filled, slotOf}
 use Rattle.mmu.specs.Walk.{walkOf}
@@ -75,6 +77,15 @@ pages-keep m k vm (va ∷ l) =
     let page = checkPage m vm k va in
     after-keeps vm (page .verdict) page (checkEach m k (page .vm) l) (page-keeps m vm k va)
     (kept-then vm (page .vm) (checkEach m k (page .vm) l .vm) (page-keeps m vm k va) (pages-keep m k (page .vm) l))
+
+after-none : (v : Verdict) (page : Checked) → page .verdict ≡ v → afterPage v page (checked (page .vm) Allowed 0) ≡ page
+unfolding afterPage
+after-none Allowed page h = rw (← h, add-zero (page .reads))
+after-none (Denied e) page h = refl
+
+pub each-page : (m : Memory) (k : Access) (vm : Vm) (va : ℕ) → checkEach m k vm (va ∷ []) ≡ checkPage m vm k va
+unfolding checkEach
+each-page m k vm va = after-none (checkPage m vm k va .verdict) (checkPage m vm k va) refl
 
 after-reads : (v : Verdict) (page rest : Checked) (n : ℕ) → page .reads ≤ 2 → rest .reads ≤ 2 * n → afterPage v page rest .reads ≤ 2 * (1 + n)
 unfolding afterPage

@@ -6,6 +6,7 @@
 --   vm-enabled, vm-ptbr, vm-vfault, vm-victim == what a register's words set do
 --   vm-word                   == what a word of an entry set does
 --   vm-entry                  == all four of them set: the entry stands in its slot
+--   grant-open, grant-none    == what a grant says of the check that it stands for, and what none says
 use Prim.Native.Nat.{ℕ, _+_, _*_, _%_, _^_, _<_}
 use mathlib.Core.Path.{_≡_, refl, sym, ap, _∙_}
 use mathlib.Core.Bool.{Bool, true, false}
@@ -14,12 +15,19 @@ use native.Mathlib.Omega.{arith}
 use lib.Dec.{eqb}
 use lib.ListN.{length, getD, set, length-set}
 use lib.Seq.{getD-set-same, getD-set-other, set-getD, set-set}
+use Rattle.common.specs.Cases.{absurd-eq}
 use Rattle.layout.specs.Records.{records-length, records-get, records-set}
 use Rattle.layout.specs.Words.{part, wordAt, onAt, bitWord, part-length, part-get, part-set-in, part-set-below}
-use Rattle.mmu.specs.Flat.{tlbStart, tlbWords, vmWords, entryAt, tlbAt, vmAt, withEntry}
+use Rattle.mmu.specs.Flat.{tlbStart, tlbWords, vmWords, grantTo, grantIf, leftIf, GrantedBy, entryAt, tlbAt, vmAt, withEntry}
 use Rattle.mmu.specs.Tlb.{noEntry}
-use Rattle.mmu.specs.Vm.{withTlb}
+use Rattle.mmu.specs.Vm.{withTlb, frameOf}
+use Rattle.mmu.specs.declared.check.Checked.{Checked}
+use Rattle.mmu.specs.declared.check.Verdict.{Verdict}
+use Rattle.mmu.specs.declared.check.Verdict.the-variants.{Allowed, Denied}
+use Rattle.mmu.specs.declared.exception.Exception.{Exception}
+use Rattle.mmu.specs.declared.flat.PageGrant.{PageGrant}
 use Rattle.mmu.specs.declared.tlb.TlbEntry.{TlbEntry}
+use Rattle.mmu.specs.declared.vm.Vm.{Vm}
 
 pub tlb-slots : (l : List ℕ) → length (vmAt l .tlb) ≡ 16
 unfolding vmAt tlbAt
@@ -171,3 +179,29 @@ vm-entry l i a b c d long h =
     let all = and-word l i h _ _ 3 (tlbStart + 4 * i + 3) d three (omega arith) refl in
     let inner : length (part tlbStart tlbWords l) ≡ tlbWords = part-length l tlbStart tlbWords (omega arith) in
     all .0 ∙ ap (withEntry (vmAt l) i) (four w a b c d (part-length (part tlbStart tlbWords l) (4 * i) 4 (omega arith)))
+
+-- ---- a grant
+
+-- what a grant r and the state v′ after it say of the check c, by its verdict
+abbrev Granted : Checked → ℕ → Vm → PageGrant → Vm → Verdict → Type 0
+Granted c va v r v′ d = (r ≡ grantIf d (grantTo (frameOf (c .vm) va) (c .reads))) × (v′ ≡ leftIf d (c .vm) v)
+
+abbrev pub Opens : Checked → ℕ → PageGrant → Vm → Type 0
+Opens c va r v′ = (c .verdict ≡ Allowed) × (r .ppn ≡ frameOf (c .vm) va) × (r .reads ≡ c .reads) × (v′ ≡ c .vm)
+
+opens-by : (c : Checked) (va : ℕ) (v : Vm) (r : PageGrant) (v′ : Vm) (d : Verdict) → c .verdict ≡ d → Granted c va v r v′ d → r .granted ≡ true → Opens c va r v′
+opens-by c va v r v′ Allowed e w h = (e, ap (λ (g : PageGrant). g .ppn) (w .0), ap (λ (g : PageGrant). g .reads) (w .0), w .1)
+opens-by c va v r v′ (Denied x) e w h = absurd-eq (cc)
+
+pub grant-open : (c : Checked) (va : ℕ) (v : Vm) (r : PageGrant) (v′ : Vm) → GrantedBy c va v r v′ → r .granted ≡ true → Opens c va r v′
+grant-open c va v r v′ w h = opens-by c va v r v′ (c .verdict) refl w h
+
+abbrev pub Shuts : Checked → Vm → Vm → Type 0
+Shuts c v v′ = ((e : Exception) × (c .verdict ≡ Denied e)) × (v′ ≡ v)
+
+shuts-by : (c : Checked) (va : ℕ) (v : Vm) (r : PageGrant) (v′ : Vm) (d : Verdict) → c .verdict ≡ d → Granted c va v r v′ d → r .granted ≡ false → Shuts c v v′
+shuts-by c va v r v′ Allowed e w h = absurd-eq (cc)
+shuts-by c va v r v′ (Denied x) e w h = ((x, e), w .1)
+
+pub grant-none : (c : Checked) (va : ℕ) (v : Vm) (r : PageGrant) (v′ : Vm) → GrantedBy c va v r v′ → r .granted ≡ false → Shuts c v v′
+grant-none c va v r v′ w h = shuts-by c va v r v′ (c .verdict) refl w h

@@ -14,9 +14,12 @@ use Rattle.layout.specs.Words.{part, put, Over, Reads, part-length, over-none, 
 use Rattle.memory.specs.Gate.{Refused as Shut, opens, accessGate}
 use Rattle.memory.specs.Gate.Laws.{access-open, is-open, is-shut}
 use Rattle.memory.specs.Memory.{Memory}
-use Rattle.mmu.specs.Check.{pageAddr, checkEach, lastPage, pagesOf}
-use Rattle.mmu.specs.Check.Pages.{pages-keep}
-use Rattle.mmu.specs.Flat.{vmAt, pagesAs, noPages, CheckedPages}
+use Rattle.mmu.specs.Check.{pageAddr, checkPage, checkEach, lastPage, pagesOf}
+use Rattle.mmu.specs.Check.Pages.{pages-keep, each-page}
+use Rattle.mmu.specs.Flat.{vmAt, pagesAs, noPages, CheckedPages, GrantsPage}
+use Rattle.mmu.specs.Flat as pages
+use Rattle.mmu.specs.Flat.Laws.{grant-open, grant-none}
+use Rattle.mmu.specs.Opened.Laws.{pages-one}
 use Rattle.mmu.specs.Vm.{frameOf}
 use Rattle.mmu.specs.declared.check.Checked.{Checked}
 use Rattle.mmu.specs.declared.check.Verdict.the-variants as verdict
@@ -24,13 +27,14 @@ use Rattle.mmu.specs.declared.exception.Access.{Access}
 use Rattle.mmu.specs.declared.exception.Access.the-variants.{Read, Write, Fetch}
 use Rattle.mmu.specs.declared.exception.Exception.{Exception}
 use Rattle.mmu.specs.declared.exception.Exception.the-variants.{ProtectionFault}
+use Rattle.mmu.specs.declared.flat.PageGrant.{PageGrant}
 use Rattle.mmu.specs.declared.flat.Pages.{Pages}
 use Rattle.mmu.specs.declared.vm.Vm.{Vm}
 use Rattle.privilege.specs.Access.{fetchSize, dataSize, legalSize, translatingOf, permissionOf, accessAnswered, fromPages, checkLegal, checkAccess}
 use Rattle.privilege.specs.Access.Laws as laws
 use Rattle.privilege.specs.Addresses.{addresses}
-use Rattle.privilege.specs.Flat.{regionsFrom, vmFrom, systemWords, regionsAt, sysAt}
-use Rattle.privilege.specs.Flat.Access.{permitAt, permitOf, barePermit, regionsPermit, pagesPermit, refusedAs, Translated, Answers, Permits}
+use Rattle.privilege.specs.Flat.{regionsFrom, vmFrom, systemWords, regionsAt, sysAt, regAt}
+use Rattle.privilege.specs.Flat.Access.{permitAt, permitOf, barePermit, regionsPermit, pagesPermit, refusedAs, Translated, Answers, Permits, grantAt, noGrant, grantIn, GrantedBy, atOnce, GrantsWord}
 use Rattle.privilege.specs.Flat.Laws.{sys-vm, reg-vm}
 use Rattle.privilege.specs.Region.{allAllowed}
 use Rattle.privilege.specs.Rows.{roomOf, nextPage}
@@ -40,6 +44,7 @@ use Rattle.privilege.specs.Transfer.Laws.{physical-off, physical-on}
 use Rattle.privilege.specs.declared.check.AccessChecked.{AccessChecked}
 use Rattle.privilege.specs.declared.check.Permission.{Permission}
 use Rattle.privilege.specs.declared.check.Permission.the-variants.{Allowed, Denied, Refused}
+use Rattle.privilege.specs.declared.flat.access.Grant.{Grant}
 use Rattle.privilege.specs.declared.flat.access.Permit.{Permit}
 use Rattle.privilege.specs.declared.region.Region.{Region}
 use Rattle.privilege.specs.declared.state.SystemState.{SystemState}
@@ -225,3 +230,86 @@ module _ (m : Memory) (l : List ℕ) (a n : ℕ) (k : Access) (r : Permit) where
     permit-good l′ h same w =
         permits-as (checkLegal m (sysAt l) a n k) l′ long same
         (laws.check-good m (sysAt l) a n k (ap (accessGate m) (sym size) ∙ is-open m legal (sym is ∙ h))) w
+
+-- ---- a word that is granted at once
+
+-- the permit of an access inside its page, as a grant
+granted-as : (c : AccessChecked) (l : List ℕ) (a pa n : ℕ) (l′ : List ℕ) → Answers c l a 4 (permit Allowed pa 0 n) l′ → GrantedBy c l a (grantAt pa n) l′
+granted-as c l a pa n l′ w =
+    let allowed : c .permission ≡ Allowed = sym (ap (λ (p : Permit). p .permission) (w .0)) in
+    let place : pa ≡ physicalOf (c .sys) a = rw allowed at (ap (λ (p : Permit). p .pa) (w .0)) in
+    let reads : n ≡ c .reads = ap (λ (p : Permit). p .reads) (w .0) in
+    (rw (allowed, place, reads), w .1 ∙ rw allowed, w .2)
+
+denied-as : (c : AccessChecked) (l : List ℕ) (a : ℕ) (e : Exception) (l′ : List ℕ) (r : Grant) → c .permission ≡ Denied e → r ≡ noGrant → sysAt l′ ≡ sysAt l → regAt l′ ≡ regAt l
+    → GrantedBy c l a r l′
+denied-as c l a e l′ r h is s g = (is ∙ rw h, s ∙ rw h, g)
+
+pub frame-granted : (g : PageGrant) (a pa : ℕ) (r : Grant) → g .granted ≡ true → pa ≡ joinedTo (g .ppn) a → r ≡ grantAt pa (g .reads) → r ≡ grantIn g a
+frame-granted g a pa r h e is = is ∙ rw (h, e)
+
+module _ (m : Memory) (l : List ℕ) (a : ℕ) (k : Access) (r : Grant) where
+  asked : (l′ : List ℕ) → atOnce (sysAt l) a ≡ true → GrantedBy (checkLegal m (sysAt l) a 4 k) l a r l′ → GrantsWord m l a k r l′
+  asked l′ t w = (λ h. w, λ h. absurd-eq (cc))
+
+  pub not-asked : atOnce (sysAt l) a ≡ false → r ≡ noGrant → GrantsWord m l a k r l
+  not-asked t e = (λ h. absurd-eq (cc), λ h. (e, refl, refl))
+
+  pub grant-apart : 4092 < a % 4096 → r ≡ noGrant → GrantsWord m l a k r l
+  grant-apart h e = not-asked (rw (lt-ltb 4092 (a % 4096) h)) e
+
+  module _ (room : a % 4096 ≤ 4092) where
+    pub grant-bare : (getD l 2 0 % 2 ≡ 1 → ⊥) → r ≡ grantAt a 0 → GrantsWord m l a k r l
+    grant-bare h e =
+        asked l (rw (le-ltb 4092 (a % 4096) room, supervisor l h))
+        (rw e (granted-as (checkLegal m (sysAt l) a 4 k) l a a 0 l (legal-supervisor m l a 4 k (permit Allowed a 0 0) h (bare-in-page a 4 (omega arith)))))
+
+    module _ (h : getD l 2 0 % 2 ≡ 1) where
+      pub grant-off : (getD l vmFrom 0 % 2 ≡ 1 → ⊥) → r ≡ noGrant → GrantsWord m l a k r l
+      grant-off g e =
+          not-asked (rw (le-ltb 4092 (a % 4096) room, user-at l true (eq-eqb (getD l 2 0 % 2) 1 h), enabled-at l false (ne-eqb (getD l vmFrom 0 % 2) 1 g))) e
+
+      module _ (new : List ℕ) (long : length l ≡ systemWords) (g : getD l vmFrom 0 % 2 ≡ 1) (kept : length new ≡ length (part vmFrom 69 l)) (small : a < 2 ^ 32)
+          (f : PageGrant) (w : Over 69 (part vmFrom 69 l) new f pages.noGrant (GrantsPage m k a (vmAt (part vmFrom 69 l)) f (vmAt new))) where
+        abbrev v : Vm
+        v = vmAt (part vmFrom 69 l)
+
+        abbrev c : Checked
+        c = checkPage m v k a
+
+        abbrev l′ : List ℕ
+        l′ = put vmFrom 69 l new
+
+        page : GrantsPage m k a v f (vmAt new)
+        page = w .0 (part-length l vmFrom 69 (omega arith)) .1
+
+        alone : checkEach m k v (pagesOf a 4) ≡ c
+        alone = ap (checkEach m k v) (pages-one a 4 small (omega arith) (omega arith)) ∙ each-page m k v a
+
+        here : atOnce (sysAt l) a ≡ true
+        here = rw (le-ltb 4092 (a % 4096) room, user-at l true (eq-eqb (getD l 2 0 % 2) 1 h), enabled-at l true (eq-eqb (getD l vmFrom 0 % 2) 1 g))
+
+        opened : f .granted ≡ true → GrantedBy (checkLegal m (sysAt l) a 4 k) l a (grantAt (joinedTo (f .ppn) a) (f .reads)) l′
+        opened t =
+            let o = grant-open c a v f (vmAt new) page t in
+            let pa : ℕ = joinedTo (f .ppn) a in
+            let permits : permit Allowed pa 0 (f .reads) ≡ pagesPermit c a 4 =
+            in-page (λ (x : ℕ). joinedTo (frameOf (c .vm) x) x) a 4 (f .reads) pa (omega arith) (rw (o .1)) ∙ rw (o .0, o .2) in
+            granted-as (checkLegal m (sysAt l) a 4 k) l a pa (f .reads) l′
+            (legal-translated m l a 4 k (permit Allowed pa 0 (f .reads)) h new long g kept (permits ∙ ap (λ (d : Checked). pagesPermit d a 4) (sym alone), o .3 ∙ ap (λ (d : Checked). d .vm) (sym alone)))
+
+        shut : f .granted ≡ false → GrantedBy (checkLegal m (sysAt l) a 4 k) l a noGrant l′
+        shut t =
+            let s = grant-none c a v f (vmAt new) page t in
+            let same : length new ≡ 69 = kept ∙ part-length l vmFrom 69 (omega arith) in
+            let legal : checkLegal m (sysAt l) a 4 k ≡ fromPages (sysAt l) c =
+            laws.by-pages m (sysAt l) a 4 k (translating l h g) ∙ ap (λ (x : Vm). fromPages (sysAt l) (checkEach m k x (pagesOf a 4))) (vm-is l) ∙ ap (fromPages (sysAt l)) alone in
+            denied-as (checkLegal m (sysAt l) a 4 k) l a (s .0 .0) l′ noGrant (rw legal (ap permissionOf (s .0 .1))) refl
+            (sys-vm l new long same ∙ ap (withVm (sysAt l)) (s .1 ∙ sym (vm-is l))) (reg-vm l new long same)
+
+        granted-by : (b : Bool) → f .granted ≡ b → r ≡ cond b (grantAt (joinedTo (f .ppn) a) (f .reads)) noGrant → GrantedBy (checkLegal m (sysAt l) a 4 k) l a r l′
+        granted-by true t e = rw e (opened t)
+        granted-by false t e = rw e (shut t)
+
+        pub grant-translated : r ≡ grantIn f a → GrantsWord m l a k r l′
+        grant-translated e = asked l′ here (granted-by (f .granted) refl e)

@@ -1,5 +1,5 @@
 -- Regions as words: their search, and eight regions written and read. Assumes nothing.
-use Prim.Native.Nat.{ℕ, _+_, _≤_, _<_}
+use Prim.Native.Nat.{ℕ, _+_, _-_, _≤_, _<_}
 use mathlib.Core.Path.{_≡_, refl, sym, ap, _∙_}
 use mathlib.Core.Bool.{Bool, true, false}
 use mathlib.Core.List.{List}
@@ -7,9 +7,11 @@ use native.Mathlib.Omega.{arith}
 use lib.ListN.{length, getD, set, drop}
 use Rattle.common.specs.Lists.{overTo, overTo-none, overTo-next, overTo-done}
 use Rattle.mmu.specs.declared.exception.Access.{Access}
+use Rattle.privilege.specs.Addresses.{addresses}
 use Rattle.privilege.specs.Flat.{regionsAt}
 use Rattle.privilege.specs.Flat.Laws.{regions-length}
 use Rattle.privilege.specs.Region.{grantsOf, someGrants, allAllowed, withField, fieldWritten}
+use Rattle.privilege.specs.Region.Laws.{one-grants}
 use Rattle.privilege.specs.State.{noRegion}
 use Rattle.privilege.specs.declared.region.Region.{Region}
 use Rattle.privilege.proofs.Regions.{none-left, granted-here, not-here}
@@ -26,6 +28,11 @@ module _ (z : Bool) (l : List ℕ) (a : ℕ) (k : Access) (i : ℕ) (p : z ≡ s
 
     pub not-in : r ≡ false → z ≡ someGrants (drop (i + 1) (regionsAt l)) a k
     not-in t = not-here z (regionsAt l) a k i p r (omega (arith, regions-length l)) (e ∙ ap (λ (x : Region). grantsOf x a k) is) t
+
+-- one region that grants the whole access
+pub granted-whole : (l : List ℕ) (a n : ℕ) (k : Access) (i : ℕ) (g : Region) (r : Bool) → g ≡ getD (regionsAt l) i noRegion → r ≡ grantsOf g a k → r ≡ true
+    → a + n ≤ g .end → n ≤ 0xFFFF_0000 → a ≤ 0xFFFF_0000 - n → true ≡ true → allAllowed (regionsAt l) k (addresses n a) ≡ true
+granted-whole l a n k i g r is e t end small low h = one-grants (regionsAt l) i g k n a is (sym e ∙ t) end (omega arith)
 
 -- regions that were put into words
 pub allowed-in : (r : Bool) (rs : List Region) (l : List ℕ) (k : Access) (at : List ℕ) → regionsAt l ≡ rs → r ≡ allAllowed (regionsAt l) k at → r ≡ allAllowed rs k at

@@ -3,7 +3,7 @@
 --   places-none, places-next == an access's places, one by one
 --   place-first, place-second == a place in the first page, and one in the second
 --   rows-word, rows-half, rows-byte == an access that stays in its page has its bytes in one row
---   load-word           == a word inside its page whose bytes a good map has
+--   word-loaded, word-stored, word-left == a load and a store of a word inside its page, over a good map
 --   rows-page           == so the second page's address is not looked at
 --   physical-row        == a page's bytes lie in a row
 --   rows-spots          == an access's bytes are where its state's lookups say, if its pages are
@@ -14,19 +14,19 @@ use mathlib.Core.List.{[], _∷_}
 use native.Mathlib.Omega.{arith}
 use lib.Dec.{ltb}
 use borrow.Author.Tests.{lt-ltb, ltb-true, ltb-false}
+use Rattle.common.specs.Bytes.{bytesOf}
 use Rattle.common.specs.Cases.{cond-case}
 use Rattle.memory.specs.Gate.{mapGood}
 use Rattle.memory.specs.Gate.Laws.{map-open, size-open}
-use Rattle.memory.specs.Memory.{Memory, readAt, wordSpots}
+use Rattle.memory.specs.Memory.{Memory, readAt, wordSpots, allWritable, putAt}
 use Rattle.memory.specs.Span.{halfSpots}
-use Rattle.memory.specs.declared.Content.the-variants as content
 use Rattle.mmu.specs.Vm.{frameOf}
 use Rattle.privilege.specs.Access.{fetchSize, dataSize, translatingOf}
 use Rattle.privilege.specs.Rows.{roomOf, nextPage, placeOf, placesFrom, rowsOf}
-use Rattle.privilege.specs.Transfer.{joinedTo, physicalOf, spots, loadAt}
+use Rattle.privilege.specs.Transfer.{joinedTo, physicalOf, spots, readOf, loadAt, storeAt, memoryAt}
 use Rattle.privilege.specs.Transfer.Laws.{spots-none, spots-next, frame-same}
 use Rattle.privilege.specs.declared.state.SystemState.{SystemState}
-use Rattle.privilege.specs.declared.transfer.DataRead.the-variants as read
+use Rattle.privilege.specs.declared.transfer.DataWritten.the-variants as written
 
 module _ (a pa pb : ℕ) where
   pub places-none : (i : ℕ) → placesFrom a pa pb i 0 ≡ []
@@ -64,9 +64,19 @@ module _ (a pa pb : ℕ) where
   unfolding placesFrom
   rows-byte = rw start
 
-pub load-word : (m : Memory) (a pa pb v : ℕ) → mapGood m ≡ true → a % 4096 ≤ 4092 → readAt m (wordSpots pa) ≡ content.Value v → loadAt m 4 (rowsOf a 4 pa pb) ≡ read.Value v
-unfolding loadAt dataSize fetchSize
-load-word m a pa pb v good page is = rw (size-open m true (map-open m good) refl, rows-word a pa pb (omega arith), is)
+-- a word inside its page, over a good map
+module _ (m : Memory) (a pa pb : ℕ) (good : mapGood m ≡ true) (page : a % 4096 ≤ 4092) where
+  pub word-loaded : loadAt m 4 (rowsOf a 4 pa pb) ≡ readOf (readAt m (wordSpots pa))
+  unfolding loadAt dataSize fetchSize
+  word-loaded = rw (size-open m true (map-open m good) refl, rows-word a pa pb (omega arith))
+
+  pub word-stored : storeAt m 4 (rowsOf a 4 pa pb) ≡ cond (allWritable m (wordSpots pa)) written.Done written.BusError
+  unfolding storeAt dataSize fetchSize
+  word-stored = rw (size-open m true (map-open m good) refl, rows-word a pa pb (omega arith))
+
+  pub word-left : (v : ℕ) → memoryAt m 4 (rowsOf a 4 pa pb) v ≡ putAt m (wordSpots pa) (bytesOf 4 v)
+  unfolding memoryAt dataSize fetchSize
+  word-left v = rw (size-open m true (map-open m good) refl, rows-word a pa pb (omega arith))
 
 module _ (a pa pb pb′ : ℕ) where
   places-page : (i n : ℕ) → i + n ≤ roomOf a → placesFrom a pa pb i n ≡ placesFrom a pa pb′ i n

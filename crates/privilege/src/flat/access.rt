@@ -5,7 +5,7 @@ ghost use lib.ListN.{length};
 ghost use Rattle.memory.specs.Memory.{lent};
 ghost use Rattle.privilege.specs.Access.{checkLegal};
 ghost use Rattle.privilege.specs.Flat.{sysAt, regionsAt, systemWords};
-ghost use Rattle.privilege.specs.Flat.Access.{barePermit, regionsPermit, refusedAs, Answers, Permits, Translated};
+ghost use Rattle.privilege.specs.Flat.Access.{barePermit, regionsPermit, refusedAs, Answers, Permits, Translated, grantAt, noGrant, grantIn, Grants};
 ghost use Rattle.privilege.specs.Rows.{nextPage};
 use crate::check::Permission;
 use crate::check::legal_size;
@@ -24,8 +24,10 @@ use mmu::check::Verdict;
 use mmu::exception::Access;
 use mmu::exception::Exception;
 use mmu::flat::ENABLED;
+use mmu::flat::PageGrant;
 use mmu::flat::check_pages;
 use mmu::flat::frame_of;
+use mmu::flat::grant_page;
 
 // What the check of an access permits, and where an allowed one is: its first byte and, where it lies over two pages, the second
 // page's first. 0 stands where there is none.
@@ -172,4 +174,65 @@ fn check_translated(
         pb: join(found.ppn, next_page(addr)),
         reads: found.reads,
     }
+}
+
+// Whether a word is granted at once, and where it then is.
+pub struct Grant {
+    pub granted: bool,
+    // The first byte's physical address, and the table words read; 0 where the word is not granted.
+    pub pa: u32,
+    pub reads: u32,
+}
+
+fn granted_at(pa: u32, reads: u32) -> Grant
+    ensures { λ r. ⌜ r ≡ grantAt pa reads ⌝ }
+{
+    Grant {
+        granted: true,
+        pa,
+        reads,
+    }
+}
+
+fn no_grant() -> Grant
+    ensures { λ r. ⌜ r ≡ noGrant ⌝ }
+{
+    Grant {
+        granted: false,
+        pa: 0,
+        reads: 0,
+    }
+}
+
+// Where a translated word is.
+fn in_frame(page: PageGrant, addr: u32) -> Grant
+    ensures { λ r. ⌜ r ≡ grantIn page addr ⌝ }
+{
+    if page.granted {
+        return granted_at(join(page.ppn, addr), page.reads);
+    }
+    no_grant()
+}
+
+// The check of a word inside its page, a supervisor's or translated, where it allows: the frequent access. Elsewhere nothing is done, and the check
+// is to be asked. The map is to be good: a size of four bytes is legal for every access.
+pub fn grant_word(sys: &mut [u32], mem: &[u8], base: u32, addr: u32, access: Access) -> Grant
+    ensures { λ r. ⌜ Grants (lent base (now (mem .entry))) (now (sys .entry)) addr access r (now (sys .exit)) ⌝ }
+{
+    if sys.len() != SYSTEM_WORDS {
+        return no_grant();
+    }
+    if addr % PAGE_SIZE > PAGE_SIZE - 4 {
+        return no_grant();
+    }
+    if sys[USER] % 2 == 1 {
+        if sys[VM + ENABLED] % 2 == 1 {
+            let a = VM;
+            let e = REG;
+            let page = grant_page(&mut sys[a..e], mem, base, addr, access);
+            return in_frame(page, addr);
+        }
+        return no_grant();
+    }
+    granted_at(addr, 0)
 }

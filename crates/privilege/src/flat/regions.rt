@@ -1,5 +1,6 @@
 // Regions as words: START, END and FLAGS of each region in turn.
 ghost use mathlib.Core.Path.{_≡_};
+ghost use mathlib.Core.Bool.{true};
 ghost use Prim.Native.Nat.{_<_};
 ghost use lib.ListN.{length, getD, set};
 ghost use Rattle.privilege.specs.Addresses.{addresses};
@@ -105,11 +106,40 @@ fn byte_allowed(regions: &[u32], addr: u32, access: Access) -> bool
     some_grants(regions, addr, access)
 }
 
+// Whether one region grants the whole access, so that its bytes need not be looked at one by one.
+fn one_grants(regions: &[u32], addr: u32, len: u32, access: Access) -> bool
+    requires { ⌜ length (now regions) ≡ 24 ⌝ }
+    ensures { λ r. ⌜ (r ≡ true → allAllowed (regionsAt (now (regions .entry))) access (addresses len addr) ≡ true) ⌝ }
+{
+    if len > CPU_RESERVED_BASE {
+        return false;
+    }
+    if addr > CPU_RESERVED_BASE - len {
+        return false;
+    }
+    let mut i: usize = 0;
+    loop {
+        if i >= REGION_COUNT {
+            break false;
+        }
+        let region = region_at(regions, i);
+        if addr + len <= region.end {
+            if region.grants(addr, access) {
+                break true;
+            }
+        }
+        i += 1;
+    }
+}
+
 // Every byte of an access.
 pub(crate) fn all_allowed(regions: &[u32], addr: u32, len: u32, access: Access) -> bool
     requires { ⌜ length (now regions) ≡ 24 ⌝ }
     ensures { λ r. ⌜ r ≡ allAllowed (regionsAt (now (regions .entry))) access (addresses len addr) ⌝ }
 {
+    if one_grants(regions, addr, len, access) {
+        return true;
+    }
     let mut byte = addr;
     let mut left = len;
     loop {

@@ -10,8 +10,11 @@ enum-told c = search needs
 ask-requires : tie.Need-ask-requires
 ask-requires c κs = search needs
 
-read-at-requires : tie.Need-read-at-requires
-read-at-requires c κs = search needs
+read-rows-requires : tie.Need-read-rows-requires
+read-rows-requires c κs = search needs
+
+read-outcome-requires : tie.Need-read-outcome-requires
+read-outcome-requires c κs = search needs
 
 answer-of-requires : tie.Need-answer-of-requires
 answer-of-requires c κs = search needs
@@ -46,7 +49,8 @@ read-permitted-spec =
     (tie.spec
     enum-told
     ask-requires
-    read-at-requires
+    read-rows-requires
+    read-outcome-requires
     answer-of-requires
     enum-known-permission
     answer-of-requires-2

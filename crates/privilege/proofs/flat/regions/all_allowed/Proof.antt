@@ -1,6 +1,6 @@
--- `privilege::flat::regions::all_allowed` meets its contract. The loop's invariant: the whole test is the test of the `left` bytes from `byte` on.
+-- `privilege::flat::regions::all_allowed` meets its contract: one region grants all bytes, or they are tested one by one. The loop's invariant: the whole test is the test of the `left` bytes from `byte` on.
 -- Assumes nothing.
-use mathlib.Core.Path.{_≡_, refl}
+use mathlib.Core.Path.{_≡_, refl, sym}
 use native.Mathlib.Omega.{arith}
 use borrow.Author.Needs.{needs}
 use Rattle.privilege.specs.Addresses.{addresses}
@@ -16,6 +16,12 @@ Inv-loop words addr len access byte₀ left₀ byte left =
 
 abbrev μ-loop : tie.MeasureT-loop
 μ-loop words addr len access byte₀ left₀ byte left = left
+
+one-grants-requires : tie.Need-one-grants-requires Inv-loop μ-loop
+one-grants-requires c κs = search needs
+
+returns : tie.Need-returns Inv-loop μ-loop
+returns c = sym (c .before .one-grants .ensures (c .if1 .taken))
 
 loop-holds : tie.Need-loop-holds Inv-loop μ-loop
 loop-holds c = refl
@@ -35,11 +41,11 @@ loop-less c = omega arith
 loop-again : tie.Need-loop-again Inv-loop μ-loop
 loop-again c = search byte-allowed
 
-returns : tie.Need-returns Inv-loop μ-loop
-returns c = search no-byte-left
-
 returns-2 : tie.Need-returns-2 Inv-loop μ-loop
-returns-2 c = search byte-denied
+returns-2 c = search no-byte-left
+
+returns-3 : tie.Need-returns-3 Inv-loop μ-loop
+returns-3 c = search byte-denied
 
 pub all-allowed-spec : {M : Type 1} → statement M
 all-allowed-spec =
@@ -47,11 +53,13 @@ all-allowed-spec =
     (tie.spec
     Inv-loop
     μ-loop
+    one-grants-requires
+    returns
     loop-holds
     byte-allowed-requires
     wrapping-add-u32-requires
     sub-left
     loop-less
     loop-again
-    returns
-    returns-2)
+    returns-2
+    returns-3)
