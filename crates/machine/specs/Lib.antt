@@ -5,4 +5,5 @@ pub mod Flat
 pub mod Totals
 pub mod Run
 pub mod FlatRun
+pub mod Resident
 pub mod Meaning

@@ -5,4 +5,5 @@ pub mod Walk
 pub mod Check
 pub mod Flat
 pub mod Opened
+pub mod Resident
 pub mod Meaning

@@ -9,5 +9,6 @@ pub mod Access
 pub mod Transfer
 pub mod Debug
 pub mod Confined
+pub mod Resident
 pub mod Meaning
 pub mod Corners

@@ -6,9 +6,10 @@
 --   access-read, access-written        == the same of a load or fetch, and of a store
 --   access-keeps                       == a load or fetch leaves memory, whatever the check says
 --   access-base                        == every access leaves the map's base
+--   allowed-answers                    == an allowed access raises no exception
 --   access-number                      == an access is refused with 2 or 1 alone
 use Prim.Native.Nat.{ℕ, _<_}
-use mathlib.Core.Path.{_≡_, refl, ap, _∙_}
+use mathlib.Core.Path.{_≡_, refl, sym, ap, _∙_}
 use mathlib.Core.Bool.{true}
 use mathlib.Core.List.{List, _∷_}
 use native.Mathlib.Nat.{add-zero}
@@ -113,6 +114,32 @@ access-base Fetch M m a n v = ap (λ (x : Memory). x .base) (access-keeps Fetch 
 access-base Write M m a n v =
     let c = checkAccess m (M .sys) a n Write in
     by-permission M m (lookedUp c a n) n v c (c .permission)
+
+-- ---- what an allowed access answers
+
+read-answers : (d : DataRead) (x : Exception) → readOutcome d ≡ outcome.Exception x → ⊥
+unfolding readOutcome
+read-answers (read.Value v) x e = absurd-eq (cc)
+read-answers read.BusError x e = absurd-eq (cc)
+read-answers (read.Refused r) x e = absurd-eq (cc)
+
+write-answers : (d : DataWritten) (x : Exception) → writeOutcome d ≡ outcome.Exception x → ⊥
+unfolding writeOutcome
+write-answers written.Done x e = absurd-eq (cc)
+write-answers written.BusError x e = absurd-eq (cc)
+write-answers (written.Refused r) x e = absurd-eq (cc)
+
+data-answers : (k : Access) (m : Memory) (n : ℕ) (l : List ℕ) (x : Exception) → dataOutcome k m n l ≡ outcome.Exception x → ⊥
+unfolding dataOutcome
+data-answers Read m n l = read-answers (loadAt m n l)
+data-answers Fetch m n l = read-answers (loadAt m n l)
+data-answers Write m n l = write-answers (storeAt m n l)
+
+pub allowed-answers : (k : Access) (M : Machine) (m : Memory) (a n v : ℕ) → checkAccess m (M .sys) a n k .permission ≡ Allowed
+    → (x : Exception) → accessOf k M m a n v .accessed .outcome ≡ outcome.Exception x → ⊥
+allowed-answers k M m a n v h x e =
+    let c = checkAccess m (M .sys) a n k in
+    data-answers k m n (lookedUp c a n) x (ap (λ (r : Result). r .accessed .outcome) (sym (access-allowed k M m a n v c refl h)) ∙ e)
 
 -- ---- what an access is refused with
 
