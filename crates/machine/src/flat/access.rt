@@ -193,6 +193,7 @@ pub fn store(
 
 // ---- a word that is granted at once
 
+// A word's content, as an access answers it.
 fn word_outcome(content: Content) -> Outcome
     ensures { λ r. ⌜ r ≡ readOutcome (readOf content) ⌝ }
 {
@@ -202,6 +203,7 @@ fn word_outcome(content: Content) -> Outcome
     }
 }
 
+// A store's answer: done where all bytes were written.
 fn stored_outcome(all: bool) -> Outcome
     ensures { λ r. ⌜ r ≡ writeOutcome (cond all DataWritten.Done DataWritten.BusError) ⌝ }
 {
@@ -239,6 +241,7 @@ fn grant_word(
     }
 }
 
+// A granted word, loaded or fetched: the cache, then memory.
 fn read_granted(state: &mut [u32], mem: &[u8], base: u32, access: Access, grant: Grant) -> Answer
     requires { ⌜ (length (now state) ≡ stateWords) × (isRead access ≡ true) × (mapGood (lent base (now mem)) ≡ true) ⌝ }
     ensures { λ r. ⌜ ReadsGranted (now (state .entry)) (now (state .exit)) (lent base (now (mem .entry))) access grant r ⌝ }
@@ -248,6 +251,7 @@ fn read_granted(state: &mut [u32], mem: &[u8], base: u32, access: Access, grant:
     answer_of(word_outcome(content), stall, grant.reads)
 }
 
+// A granted word, stored.
 fn write_granted(state: &mut [u32], mem: &mut [u8], base: u32, value: u32, grant: Grant) -> Answer
     requires { ⌜ (length (now state) ≡ stateWords) × (mapGood (lent base (now mem)) ≡ true) ⌝ }
     ensures { λ r. ⌜ WritesGranted (now (state .entry)) (now (state .exit)) (lent base (now (mem .entry))) value grant r (now (mem .exit)) ⌝ }
