@@ -109,18 +109,18 @@ WritesPermitted l l′ m a n v permit r bytes =
     → (accessedAs r (machineAt l′) ≡ checkedIn s (machineAt l) m a n v Write .accessed) × (bytes ≡ checkedIn s (machineAt l) m a n v Write .memory .bytes))
 
 -- an address of a word inside its page
-abbrev pub InPage : ℕ → Type 0
-InPage a = (a < 2 ^ 32) × (a % 4096 ≤ 4092)
+abbrev pub WordInPage : ℕ → Type 0
+WordInPage a = (a < 2 ^ 32) × (a % 4096 ≤ 4092)
 
 abbrev pub Grants : List ℕ → List ℕ → Memory → ℕ → ℕ → Access → Grant → Type 0
 Grants l l′ m a n k g =
-    (g .granted ≡ true → (n ≡ 4) × (mapGood m ≡ true) × InPage a × Permits l l′ m a n k (permitFor g)) × (g .granted ≡ false → Left l l′ (machineAt l))
+    (g .granted ≡ true → (n ≡ 4) × (mapGood m ≡ true) × WordInPage a × Permits l l′ m a n k (permitFor g)) × (g .granted ≡ false → Left l l′ (machineAt l))
 
 abbrev pub ReadsGranted : List ℕ → List ℕ → Memory → Access → Grant → Answer → Type 0
-ReadsGranted l l′ m k g r = (a : ℕ) → InPage a → ReadsPermitted l l′ m a 4 k (permitFor g) r
+ReadsGranted l l′ m k g r = (a : ℕ) → WordInPage a → ReadsPermitted l l′ m a 4 k (permitFor g) r
 
 abbrev pub WritesGranted : List ℕ → List ℕ → Memory → ℕ → Grant → Answer → List ℕ → Type 0
-WritesGranted l l′ m v g r bytes = (a : ℕ) → InPage a → WritesPermitted l l′ m a 4 v (permitFor g) r bytes
+WritesGranted l l′ m v g r bytes = (a : ℕ) → WordInPage a → WritesPermitted l l′ m a 4 v (permitFor g) r bytes
 
 abbrev pub Accesses : List ℕ → List ℕ → Access → Memory → ℕ → ℕ → ℕ → Answer → List ℕ → Type 0
 Accesses l l′ k m a n v r bytes =

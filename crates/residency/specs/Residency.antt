@@ -62,7 +62,7 @@ pub record Residency : Type 0 where
   -- "It then uses no walk read and leaves the TLB unchanged." So it does where it is denied
   pub no-reads : (M : Machine) (m : Memory) (a n : ℕ) (k : Access) (i : ℕ) → Held M m a n k i → checkAccess m (M .sys) a n k .reads ≡ 0
   pub nothing-changed : (M : Machine) (m : Memory) (a n : ℕ) (k : Access) (i : ℕ) → Held M m a n k i → checkAccess m (M .sys) a n k .sys ≡ M .sys
-  -- so it answers a value or a bus error, and no exception
+  -- so it answers no exception
   pub no-exception : (M : Machine) (m : Memory) (a n v : ℕ) (k : Access) (i : ℕ) → Held M m a n k i → Granted (inSlot (tlbOf M) i) k
       → (x : exception.Exception) → accessOf k M m a n v .accessed .outcome ≡ Exception x → ⊥
   -- and a table that was changed since says nothing: a leaf that was taken back stays usable while its entry is resident
