@@ -13,7 +13,7 @@ NAMES = ("runner", "inspect")
 COMMAND = ("rt", "check", *NAMES)
 FIRST = "rehearse: building once with `rt check runner inspect`, which proves the machine and compiles it:"
 AGAIN = "rehearse: what the programs are made of has changed; building again with `rt check runner inspect`:"
-TIME = "          five to six minutes on two cores"
+TIME = "          five to eight minutes on two cores"
 PATIENCE = 20.0
 PAUSE = 0.1
 
