@@ -1,4 +1,6 @@
 // The port as a static library, for Rust to call: each function is the part's own, under a C name and by value.
+#![tactic(auto)]
+
 pub mod cache_calls;
 pub mod exception_calls;
 pub mod irqc_calls;

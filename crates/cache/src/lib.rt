@@ -4,6 +4,8 @@
 // caches would hold, counts hits and misses, and charges `miss_penalty` for a miss. The state goes in by value and comes
 // back by value. The bus window (`connect_cache`, its base and size) is left out; its byte lanes are `read_byte` and
 // `write_byte`. Both banks have the same size, so a bank's `size_shift` is the constant `SIZE_SHIFT`.
+#![tactic(auto)]
+
 ghost use Rattle.std.specs.Prelude.{◌≡◌};
 ghost use Rattle.cache.specs.Bank.{line_of, line_stop, index_of, tag_of, new_bank, accessed, line_dropped, emptied, enabled_to, stats_cleared, controlled, swept};
 ghost use Rattle.cache.specs.Cache.{saturated, new_cache, range_has, cacheable_at, reset_of, both_cleared, cost_of, fetched, loaded, stored, external_written, lines_visited, enable_bits, ctrl_word, register_at, reg_read, reg_written, lane_shift, merged, byte_read, byte_written};

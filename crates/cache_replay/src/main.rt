@@ -4,12 +4,14 @@
 // bytes at a, 4 read register a, 5 write b to it, 6 read register byte a, 7 write `size` to it, 8 reset, 9 new with range a, b,
 // 10 penalty a; others do nothing. A line has the value, both enables, the I and D hits and misses, the penalty, the range, and
 // the digests of the I and D tags.
+#![tactic(auto)]
+
 use cache::{Bank, CacheAccess, L1Cache};
 use digest::FNV_START;
 use script::{EVENT_SIZE, Event};
 use text::{put_byte, put_hex};
 
-#[derive(Drop)]
+#[derive(Clone, Copy)]
 struct Answer {
     cache: L1Cache,
     value: u32,

@@ -1,5 +1,7 @@
 // What every crate shares: numbers made of bytes, high byte first, and the numbered refusals. The shared definitions and laws
 // are in specs/.
+#![tactic(auto)]
+
 ghost use Rattle.std.specs.Prelude.{◌≡◌, [], ◌∷◌};
 ghost use Rattle.common.specs.Bytes.{big_endian};
 ghost use Rattle.common.specs.Refusal.{refusal_number};
@@ -28,6 +30,7 @@ pub enum Refusal {
 }
 
 impl Refusal {
+    #[tactic(auto, unfolding(crate::specs::Refusal::refusal_number))]
     pub fn number(self) -> u32
         ensures { result ≡ refusal_number self }
     {

@@ -4,6 +4,8 @@
 // are user-readable. A load of 4 at 0x5FFE is allowed, its check walks for page 6 and fills slot 0, and the data's lookup then
 // finds no page 5: the bytes come from 0xFFE, 0xFFF, 0x21000, 0x21001. The line has the value, the words that the walk read,
 // next_victim, and slot 0: valid, virtual page, physical page, flags.
+#![tactic(auto)]
+
 use mmu::exception::Access;
 use mmu::tlb::TlbEntry;
 use mmu::vm::Vm;

@@ -1,4 +1,6 @@
 // FNV-1a over 32 bits: a short witness of a large state, for answers that are compared as text.
+#![tactic(auto)]
+
 ghost use Rattle.std.specs.Prelude.{◌≡◌};
 ghost use Rattle.digest.specs.Digest.{fnv_byte, fnv_word, fnv_words};
 

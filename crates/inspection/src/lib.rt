@@ -1,6 +1,8 @@
 // A script's listing with the state after each event's line, whole or what changed: for comparing with the Rust, and for people who debug.
 //
 // The state lines are a test instrument: they are safe, and what they show no definition says.
+#![tactic(auto)]
+
 mod changes;
 mod field;
 mod state;

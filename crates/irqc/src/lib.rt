@@ -2,6 +2,8 @@
 //
 // It arbitrates sixteen interrupt sources and presents the lowest numbered one that is pending and enabled. The state
 // goes in by value and comes back by value. Tracing and the bus window (`connect_irqc`) are left out.
+#![tactic(auto)]
+
 ghost use Rattle.std.specs.Prelude.{◌≡◌};
 ghost use Rattle.irqc.specs.Irqc.{new_controller, source_set, levels_set, each_set, pending_cleared, mask_set, output_of, byte_read, byte_written};
 ghost use Rattle.irqc.specs.Meaning.{Meaning};
@@ -11,7 +13,7 @@ pub mod lent;
 const SOURCE_COUNT: u32 = 16;
 
 #[repr(C)]
-#[derive(Drop)]
+#[derive(Clone, Copy)]
 pub struct IrqOutput {
     pub valid: bool,
     pub number: u8,
@@ -20,7 +22,7 @@ pub struct IrqOutput {
 // A source's request is latched by `set_source` on a rising edge. Software clears it by writing its bit to the pending
 // register, whatever the source's level is by then.
 #[repr(C)]
-#[derive(Drop)]
+#[derive(Clone, Copy)]
 pub struct IrqController {
     pub pending: u16,
     pub enable: u16,

@@ -3,6 +3,8 @@
 // An operation is a record of twelve bytes: kind, size, aux, a, b. Kinds: 0 source a to level (size not 0), 1 the sources
 // of mask aux to the levels in a, 2 clear pending aux, 3 enable aux, 4 write byte `size` to register a, 5 reset; others do
 // nothing. A line has pending, enable, valid, number, the register bytes 0 to 7, and the register byte at a.
+#![tactic(auto)]
+
 use irqc::IrqController;
 use script::{EVENT_SIZE, Event};
 use text::{put_byte, put_hex};

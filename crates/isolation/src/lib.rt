@@ -1,6 +1,8 @@
 // Isolation: what the port is for. A user's accesses neither show nor change what is sealed off from them.
 //
 // Nothing here is run: each function's contract is a theorem about the machine's combined access, or about its runs.
+#![tactic(auto)]
+
 ghost use Rattle.isolation.specs.Events.{InRuns, InScripts};
 ghost use Rattle.isolation.specs.Demand3.{InPages, Demand3, Integrity, Confidentiality};
 

@@ -1,4 +1,6 @@
 // Words that an owner lends: parts of a state that lie one after the other in one slice.
+#![tactic(auto)]
+
 ghost use Rattle.std.specs.Prelude.{◌≡◌, cond, eqb, length};
 
 // The words of `from` where those of `to` stand. If there are not as many, nothing is copied.

@@ -2,6 +2,8 @@
 // its listing'.
 //
 // Each function writes into a lent buffer at a place and answers the next place, as those of `text` do.
+#![tactic(auto)]
+
 ghost use Rattle.std.specs.Prelude.{◌≡◌, [], ◌∷◌, ◌++◌};
 ghost use Rattle.text.specs.Text.{written, hex_of, decimal_of};
 ghost use Rattle.listing.specs.Listing.{line, newline, spaced, line_text, numbered, end_text, refused_text};
@@ -13,7 +15,7 @@ use text::{put_byte, put_bytes, put_decimal, put_hex};
 pub const LISTING_MAX: usize = 131_072;
 
 // What one event shows.
-#[derive(Drop)]
+#[derive(Clone, Copy)]
 pub struct Line {
     // V for a value, X for an exception, B for a bus error on data, N for a refusal.
     pub letter: u8,

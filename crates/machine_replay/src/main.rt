@@ -1,6 +1,8 @@
 // Replays scripts from standard input and writes the listing of each, with the state lines that changed after each event's line.
 //
 // The scripts stand in a row, each behind its length in four bytes. One that the input's end cuts off is not run, and a line says so.
+#![tactic(auto)]
+
 use common::be_word;
 
 fn show_cut() {

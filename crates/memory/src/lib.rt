@@ -1,5 +1,7 @@
 // Lent memory: a slice and a physical base stand for the bus. Big-endian; what lies outside the map cannot be read and is
 // not written.
+#![tactic(auto)]
+
 ghost use Rattle.std.specs.Prelude.{◌≡◌, length};
 ghost use Rattle.memory.specs.Memory.{lent, good_map, byte_at, writable, put_byte, read_at, word_spots};
 

@@ -12,7 +12,7 @@ use crate::walk::{PTE_U, Walked, walk};
 // User code can never touch vectors, IRQC or CPU state at or above this.
 pub const CPU_RESERVED_BASE: u32 = 0xFFFF_0000;
 
-#[derive(Drop)]
+#[derive(Clone, Copy)]
 pub enum Verdict {
     Allowed,
     Denied(Exception),

@@ -8,14 +8,14 @@ use crate::walk::{PTE_R, PTE_W, PTE_X};
 pub const CAUSE_EXCEPTION: u32 = 0x8000_0000;
 
 // The kind of a user's access.
-#[derive(Drop)]
+#[derive(Clone, Copy)]
 pub enum Access {
     Read,
     Write,
     Fetch,
 }
 
-#[derive(Drop)]
+#[derive(Clone, Copy)]
 pub enum Exception {
     IllegalInstruction,
     BusError,

@@ -2,6 +2,8 @@
 //
 // The bus behind a walk is lent memory: a slice and a physical base. The state goes in by value and comes back by value; in `flat` it is words that an
 // owner lends.
+#![tactic(auto)]
+
 ghost use Rattle.mmu.specs.Meaning.{Meaning, Corners};
 
 pub mod check;

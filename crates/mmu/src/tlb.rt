@@ -6,7 +6,7 @@ pub const TLB_ENTRIES: usize = 16;
 
 // One translation. The flags are the R, W, X and U bits of the leaf.
 #[repr(C)]
-#[derive(Drop)]
+#[derive(Clone, Copy)]
 pub struct TlbEntry {
     pub valid: bool,
     pub vpn: u32,

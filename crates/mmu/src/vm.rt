@@ -7,7 +7,7 @@ use crate::tlb;
 use crate::tlb::{Slot, TLB_ENTRIES, TlbEntry};
 
 #[repr(C)]
-#[derive(Drop)]
+#[derive(Clone, Copy)]
 pub struct Vm {
     pub enabled: bool,
     pub ptbr: u32,

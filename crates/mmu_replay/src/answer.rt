@@ -4,7 +4,7 @@ use mmu::exception::Exception;
 use mmu::tlb::TlbEntry;
 use mmu::vm::Vm;
 
-#[derive(Drop)]
+#[derive(Clone, Copy)]
 pub struct Answer {
     pub vm: Vm,
     pub letter: u8,

@@ -5,6 +5,8 @@
 // 5 PTBR becomes a, with no flush; 6 the physical word at a becomes b; 7 translate a by the TLB or a walk, with no fill;
 // others do nothing. A line has the answer's letter and two numbers, the words that a check's walks read, next_victim, and the
 // TLB's digest.
+#![tactic(auto)]
+
 mod answer;
 mod line;
 mod operate;

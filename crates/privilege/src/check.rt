@@ -10,7 +10,7 @@ use memory::gate::{is_open, refusal};
 use mmu::check::Verdict;
 use mmu::exception::{Access, Exception};
 
-#[derive(Drop)]
+#[derive(Clone, Copy)]
 pub enum Permission {
     Allowed,
     Denied(Exception),

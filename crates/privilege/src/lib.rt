@@ -4,6 +4,8 @@
 // The state goes in by value and comes back by value, with R0 to R31 beside it where they are exchanged; `flat` has the same over
 // words that an owner lends. The bus is lent memory.
 // Text functions and snapshots are left out.
+#![tactic(auto)]
+
 ghost use Rattle.privilege.specs.Corners.{Corners};
 ghost use Rattle.privilege.specs.Meaning.{Meaning};
 

@@ -8,7 +8,7 @@ use mmu::exception::{Access, region_bit};
 
 pub const REGION_COUNT: usize = 8;
 
-#[derive(Drop)]
+#[derive(Clone, Copy)]
 pub struct Region {
     pub start: u32,
     // Exclusive.

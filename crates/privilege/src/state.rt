@@ -18,14 +18,14 @@ pub const STATUS_PSM: u32 = 1 << 4;
 pub const PAGE_SIZE: u32 = 4096;
 
 // The length of an instruction.
-#[derive(Drop)]
+#[derive(Clone, Copy)]
 pub enum InstructionMode {
     Normal,
     Short,
 }
 
 // Trap and privilege state: STATUS, EPC, CAUSE, the other mode's bank, regions, translation.
-#[derive(Drop)]
+#[derive(Clone, Copy)]
 pub struct SystemState {
     pub ie: bool,
     pub pie: bool,

@@ -8,7 +8,7 @@ use privilege::state::{InstructionMode, SystemState};
 use privilege::transfer::{DataRead, DataWritten};
 use privilege::trap::{Returned, Trapped};
 
-#[derive(Drop)]
+#[derive(Clone, Copy)]
 pub struct Answer {
     pub sys: SystemState,
     pub reg: [u32; 32],

@@ -6,6 +6,8 @@
 // `debug_translate` of a; 11 register `size` modulo 32 becomes a; 12 each system register number in order is written with a and
 // read back, and the value is the digest of those answers; others change nothing. A line has the answer's letter, value and
 // instruction mode, the words that a check's walks read, STATUS, EPC, CAUSE, and the digest of the rest.
+#![tactic(auto)]
+
 mod answer;
 mod line;
 mod operate;

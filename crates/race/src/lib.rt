@@ -1,5 +1,7 @@
 // A whole race under a C name: any number of events in one call. It is a static library of its own: there the machine's loop has this one
 // caller, and the compiler makes it for a run that writes no lines.
+#![tactic(auto)]
+
 ghost use Rattle.std.specs.Prelude.{◌≡◌, ◌%◌, ◌^◌, length};
 ghost use Rattle.machine.specs.Run.{run_from};
 ghost use Rattle.machine.specs.State.{new_machine};

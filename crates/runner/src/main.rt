@@ -1,6 +1,8 @@
 // Reads a script on standard input and prints its listing.
 //
 // The buffer is longer than the longest script, so that one which is too long is noticed and refused.
+#![tactic(auto)]
+
 use listing::LISTING_MAX;
 use machine::run::list_whole;
 

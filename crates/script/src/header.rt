@@ -19,7 +19,7 @@ pub const IMAGE_MAX: u32 = 32_768;
 const PAGE_SIZE: u32 = 4096;
 
 // Six words, big-endian.
-#[derive(Drop)]
+#[derive(Clone, Copy)]
 pub struct Header {
     // How many events there are, and where in the script they start.
     pub events: u32,
@@ -41,7 +41,7 @@ pub enum Script {
 }
 
 // The part of a script from `at` up to `end`.
-#[derive(Drop)]
+#[derive(Clone, Copy)]
 struct Section {
     at: usize,
     end: usize,

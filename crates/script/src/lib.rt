@@ -1,4 +1,6 @@
 // An event script: document 01, 'Event script and its listing'. Here its events; `header` has its header and its image.
+#![tactic(auto)]
+
 ghost use Rattle.std.specs.Prelude.{◌≡◌, ◌+◌, ◌<◌, ◌≤◌, length};
 ghost use Rattle.script.specs.Event.{byte_of, half_of, word_of, event_at};
 ghost use Rattle.script.specs.Meaning.{Meaning};
@@ -12,7 +14,7 @@ pub mod reader;
 pub const EVENT_SIZE: usize = 12;
 
 // Twelve bytes, big-endian. Which fields an event uses its kind says.
-#[derive(Drop)]
+#[derive(Clone, Copy)]
 pub struct Event {
     pub kind: u8,
     pub size: u8,

@@ -1,6 +1,8 @@
 // Text in a lent buffer: bytes, hexadecimal and decimal numbers, each written at a place, with the next place as the answer.
 //
 // A byte that has no room is left out and the place stays, so nothing is asked of the caller.
+#![tactic(auto)]
+
 ghost use Rattle.std.specs.Prelude.{◌≡◌, [], ◌∷◌, ◌≤◌, length, drop};
 ghost use Rattle.text.specs.Text.{written, hex_digit, hex_of, decimal_of};
 

@@ -2,6 +2,8 @@
 //
 // Nothing here is run: each function's contract is a theorem. The figures are computed from the definitions of the parts below,
 // so this crate opens them, as no other crate above the machine does.
+#![tactic(auto)]
+
 ghost use Rattle.witness.specs.Witness.{Witness};
 ghost use Rattle.witness.specs.Counterexamples.{Needed};
 

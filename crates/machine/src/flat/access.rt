@@ -24,7 +24,7 @@ use privilege::transfer::{DataRead, DataWritten};
 use script::Event;
 
 // What an access answers.
-#[derive(Drop)]
+#[derive(Clone, Copy)]
 pub struct Answer {
     pub outcome: Outcome,
     pub stall: u32,

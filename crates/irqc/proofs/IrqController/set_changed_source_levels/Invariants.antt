@@ -1,0 +1,18 @@
+-- `irqc::IrqController::set_changed_source_levels` meets its contract. The loop's invariant: the sources below `number` are set.
+-- Assumes nothing.
+use Prim.Native.Nat.{◌≤◌, ◌-◌}
+use mathlib.Core.Path.{◌≡◌, ◌∙◌, ap}
+use mathlib.Core.Logic.{⊎_elim}
+use native.Mathlib.Omega.{arith}
+use borrow.Author.Rules.{rules}
+use Rattle.irqc.specs.Irqc.{each_set}
+use Rattle.irqc.proofs.Sources.{next_set, next_skip}
+use Rattle.irqc.proofs.IrqController.set_changed_source_levels.Given as goal
+
+abbrev pub invariant-loop-number : goal.invariant-loop-number
+invariant-loop-number l =
+    (l.number ≤ 16) × (l.c ≡ each_set l.initial.c l.changed l.levels l.number)
+
+abbrev pub decreases-loop-number : goal.decreases-loop-number
+decreases-loop-number l =
+    16 - l.number

@@ -1,0 +1,13 @@
+-- `mmu::flat::check_page` meets its contract: the page is reserved, resident, or walked for. Assumes nothing.
+use Rattle.mmu.proofs.Flats.{pages}
+use Rattle.std.proofs.Common.{rules}
+use Rattle.mmu.proofs.flat.check_page.Goals as goal
+
+pub returns-then-page-ge-CPU_RESERVED_BASE : goal.returns-then-page-ge-CPU_RESERVED_BASE
+returns-then-page-ge-CPU_RESERVED_BASE c = search (pages, rules)
+
+pub returns-then-slot-lt-TLB_ENTRIES : goal.returns-then-slot-lt-TLB_ENTRIES
+returns-then-slot-lt-TLB_ENTRIES c = search (pages, rules)
+
+pub returns : goal.returns
+returns c = search (pages, rules)

@@ -1,0 +1,27 @@
+-- `mmu::vm::Vm::check_page` meets its contract: the page is reserved, resident, or walked for. Assumes nothing.
+use Rattle.std.proofs.Common.{◌≡◌, length, sym, ◌∙◌, arith, rules}
+use Rattle.common.specs.Lists.{mapped_length}
+use Rattle.mmu.specs.Tlb.Laws.{found_bound}
+use Rattle.mmu.proofs.Pages.{page_reserved, page_resident, page_walked}
+use Rattle.mmu.proofs.vm.Vm.check_page.Goals as goal
+
+pub returns-then-page-ge-CPU_RESERVED_BASE : goal.returns-then-page-ge-CPU_RESERVED_BASE
+returns-then-page-ge-CPU_RESERVED_BASE c = search page_reserved
+
+pub offset_bounds-self-i : goal.offset_bounds-self-i
+offset_bounds-self-i c =
+    let s = c.args.t1 in
+    let n : length s.tlb ≡ 16 = search (rules, mapped_length) in
+    omega (arith, found_bound _ s.tlb _ (sym c.lookup-slot.ensures ∙ c.slot-1.given.1))
+
+pub bounds-self-i : goal.bounds-self-i
+bounds-self-i c =
+    let s = c.args.t1 in
+    let n : length s.tlb ≡ 16 = search (rules, mapped_length) in
+    omega (arith, found_bound _ s.tlb _ (sym c.lookup-slot.ensures ∙ c.slot-1.given.1))
+
+pub returns-in-At : goal.returns-in-At
+returns-in-At c = search page_resident
+
+pub returns-in-Nothing : goal.returns-in-Nothing
+returns-in-Nothing c = search page_walked

@@ -1,0 +1,6 @@
+-- `mmu::vm::Vm::new` meets its contract. Assumes nothing.
+use Rattle.std.proofs.Common.{rules}
+use Rattle.mmu.proofs.vm.Vm.new.Goals as goal
+
+pub returns : goal.returns
+returns c = cc
