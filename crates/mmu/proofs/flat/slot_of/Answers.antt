@@ -4,14 +4,14 @@ use Rattle.mmu.specs.Flat.{vm_words, vm_at}
 use Rattle.mmu.specs.Tlb.{first_match}
 use Rattle.mmu.proofs.Flats.{slots}
 use Rattle.mmu.proofs.flat.slot_of.Goals as goal
-use Rattle.mmu.proofs.flat.slot_of.Goals.{else-vm-at, then-vm-at}
+use Rattle.mmu.proofs.flat.slot_of.Goals.{then-vm-at+else-vm-at-eq1, else-vm-at}
 
 pub loop-i-init : goal.loop-i-init
 loop-i-init c = (refl, search rules, search rules, search rules)
 
 pub loop-i-preserved : goal.loop-i-preserved
 loop-i-preserved c =
-    (elim c.if-vm-at.branch [ then-vm-at w ↦ search (slots, rules) | else-vm-at w ↦ search (slots, rules) ], search rules, search rules, search rules)
+    (elim c.if-vm-at.branch [ then-vm-at+else-vm-at-eq1 w ↦ search (slots, rules) | else-vm-at w ↦ search (slots, rules) ], search rules, search rules, search rules)
 
 pub returns-then-i-entries : goal.returns-then-i-entries
 returns-then-i-entries c = (search rules, search (slots, rules))

@@ -4,10 +4,8 @@ use Rattle.std.proofs.Common.{◌≡◌, ◌-◌, ◌≤◌, length, sym, ◌∙
 use Rattle.common.specs.Lists.{map_to, map_to_none, map_to_next, map_to_done, map_to_one}
 use Rattle.mmu.specs.Tlb.{no_entry, no_entries}
 use Rattle.mmu.specs.declared.tlb.TlbEntry.{TlbEntry}
+use Rattle.mmu.proofs.tlb.flush.Invariants.{zeroed}
 use Rattle.mmu.proofs.tlb.flush.Goals as goal
-
-abbrev zeroed : TlbEntry → TlbEntry
-zeroed e = no_entry
 
 pub loop-i-init : goal.loop-i-init
 loop-i-init c = (sym (map_to_none zeroed c.args.tlb), search rules, search rules)

@@ -6,6 +6,9 @@ use Rattle.mmu.specs.Tlb.{no_entry, no_entries}
 use Rattle.mmu.specs.declared.tlb.TlbEntry.{TlbEntry}
 use Rattle.mmu.proofs.tlb.flush.Given as goal
 
+abbrev pub zeroed : TlbEntry → TlbEntry
+zeroed e = no_entry
+
 abbrev pub invariant-loop-i : goal.invariant-loop-i
 invariant-loop-i l =
     (l.left ≡ map_to zeroed l.i l.initial.left) × (l.i ≤ 16) × (length l.initial.left ≡ 16)

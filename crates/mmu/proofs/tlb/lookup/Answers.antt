@@ -3,7 +3,7 @@ use Rattle.std.proofs.Common.{◌≡◌, ◌-◌, ◌≤◌, length, drop, refl,
 use Rattle.mmu.specs.Tlb.{first_match}
 use Rattle.mmu.proofs.Search.{none_left, found_here, not_valid, other_page}
 use Rattle.mmu.proofs.tlb.lookup.Goals as goal
-use Rattle.mmu.proofs.tlb.lookup.Goals.{else-entry, then-entry}
+use Rattle.mmu.proofs.tlb.lookup.Goals.{then-entry+else-entry-vpn, else-entry}
 
 pub loop-i-init : goal.loop-i-init
 loop-i-init c = (search rules, search rules, refl)
@@ -13,7 +13,7 @@ loop-i-preserved c =
     let inv = c.loop-i.invariant in (
       inv.0,
       omega arith,
-      elim c.if-entry.branch [ then-entry w ↦ search (other_page, rules) | else-entry w ↦ search (not_valid, rules) ],
+      elim c.if-entry.branch [ then-entry+else-entry-vpn w ↦ search (other_page, rules) | else-entry w ↦ search (not_valid, rules) ],
     )
 
 pub returns-then-i-ge-TLB_ENTRIES : goal.returns-then-i-ge-TLB_ENTRIES

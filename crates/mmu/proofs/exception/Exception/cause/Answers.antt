@@ -5,16 +5,16 @@ use Rattle.mmu.proofs.Causes.{region_small, syscall_cause, protection_cause, pag
 use Rattle.mmu.proofs.exception.Exception.cause.Goals as goal
 
 pub with_code-requires-in-ProtectionFault : goal.with_code-requires-in-ProtectionFault
-with_code-requires-in-ProtectionFault c = (search rules, omega (arith, region_small c.self-in-ProtectionFault-1.given.0.0 _ c.region_bit.ensures))
+with_code-requires-in-ProtectionFault c = (search rules, omega (arith, region_small _ _ c.region_bit.ensures))
 
 pub overflow_add-bit : goal.overflow_add-bit
-overflow_add-bit c = omega (arith, region_small c.self-in-PageFault-1.given.0.0 _ c.region_bit-bit.ensures)
+overflow_add-bit c = omega (arith, region_small _ _ c.region_bit-bit.ensures)
 
 pub with_code-requires-then-protection : goal.with_code-requires-then-protection
-with_code-requires-then-protection c = (search rules, omega (arith, region_small c.self-in-PageFault-1.given.0.0 _ c.region_bit-bit.ensures))
+with_code-requires-then-protection c = (search rules, omega (arith, region_small _ _ c.region_bit-bit.ensures))
 
 pub with_code-requires-else-protection : goal.with_code-requires-else-protection
-with_code-requires-else-protection c = (search rules, omega (arith, region_small c.self-in-PageFault-1.given.0.0 _ c.region_bit-bit.ensures))
+with_code-requires-else-protection c = (search rules, omega (arith, region_small _ _ c.region_bit-bit.ensures))
 
 pub returns-in-IllegalInstruction : goal.returns-in-IllegalInstruction
 unfolding cause_of

@@ -10,15 +10,15 @@ returns-then-page-ge-CPU_RESERVED_BASE c = search page_reserved
 
 pub offset_bounds-self-i : goal.offset_bounds-self-i
 offset_bounds-self-i c =
-    let s = c.args.t1 in
+    let s = c.args.self in
     let n : length s.tlb ≡ 16 = search (rules, mapped_length) in
-    omega (arith, found_bound _ s.tlb _ (sym c.lookup-slot.ensures ∙ c.slot-1.given.1))
+    omega (arith, found_bound _ _ _ (sym c.in-At.ensures))
 
 pub bounds-self-i : goal.bounds-self-i
 bounds-self-i c =
-    let s = c.args.t1 in
+    let s = c.args.self in
     let n : length s.tlb ≡ 16 = search (rules, mapped_length) in
-    omega (arith, found_bound _ s.tlb _ (sym c.lookup-slot.ensures ∙ c.slot-1.given.1))
+    omega (arith, found_bound _ _ _ (sym c.in-At.ensures))
 
 pub returns-in-At : goal.returns-in-At
 returns-in-At c = search page_resident

@@ -7,13 +7,13 @@ use Rattle.mmu.proofs.vm.Vm.frame_of.Goals as goal
 
 pub offset_bounds-self-i : goal.offset_bounds-self-i
 offset_bounds-self-i c =
-    let n : length c.args.t1.tlb ≡ 16 = search (rules, mapped_length) in
-    omega (arith, found_bound _ _ _ (sym c.lookup-slot.ensures ∙ c.slot-1.given.1))
+    let n : length c.args.self.tlb ≡ 16 = search (rules, mapped_length) in
+    omega (arith, found_bound _ _ _ (sym c.in-At.ensures))
 
 pub bounds-self-i : goal.bounds-self-i
 bounds-self-i c =
-    let n : length c.args.t1.tlb ≡ 16 = search (rules, mapped_length) in
-    omega (arith, found_bound _ _ _ (sym c.lookup-slot.ensures ∙ c.slot-1.given.1))
+    let n : length c.args.self.tlb ≡ 16 = search (rules, mapped_length) in
+    omega (arith, found_bound _ _ _ (sym c.in-At.ensures))
 
 pub returns-in-At : goal.returns-in-At
 returns-in-At c = search resident_frame
