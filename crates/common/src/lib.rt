@@ -19,7 +19,7 @@ pub fn be_word(a: u8, b: u8, c: u8, d: u8) -> u32
 }
 
 // Why a call was refused. A refused call has changed nothing.
-#[derive(Drop)]
+#[derive(Clone, Copy)]
 pub enum Refusal {
     Size,
     Map,

@@ -12,7 +12,7 @@ use crate::state::Machine;
 use common::Refusal;
 use mmu::exception::Exception;
 
-#[derive(Drop)]
+#[derive(Clone, Copy)]
 pub enum Outcome {
     Value(u32),
     Exception(Exception),
