@@ -1,0 +1,6 @@
+-- `privilege::check::permission_of` meets its contract, case by case. Assumes nothing.
+use Rattle.std.proofs.Common.{rules}
+use Rattle.privilege.proofs.check.permission_of.Goals as goal
+
+pub returns-in-Denied : goal.returns-in-Denied
+returns-in-Denied c = rw c.verdict-1.given.1

@@ -1,0 +1,13 @@
+-- `privilege::flat::regions::one_grants` meets its contract: where it answers yes, one region holds all bytes. Assumes nothing.
+use Rattle.std.proofs.Common.{◌-◌, ◌≤◌, rules}
+use Rattle.common.specs.Cases.{absurd_eq}
+use Rattle.privilege.proofs.flat.Tables.{granted_whole}
+use Rattle.privilege.proofs.flat.regions.one_grants.Given as goal
+
+abbrev pub invariant-loop-i : goal.invariant-loop-i
+invariant-loop-i l =
+    (l.i ≤ 8) × (l.len ≤ 0xFFFF_0000) × (l.addr ≤ 0xFFFF_0000 - l.len)
+
+abbrev pub decreases-loop-i : goal.decreases-loop-i
+decreases-loop-i l =
+    8 - l.i

@@ -1,0 +1,15 @@
+-- `privilege::flat::regions::regions_of` meets its contract. The loop's invariant: the first i regions are read. Assumes nothing.
+use Rattle.std.proofs.Common.{◌≡◌, ◌-◌, ◌≤◌, length, rules}
+use Rattle.common.specs.Lists.{over_to}
+use Rattle.privilege.specs.Flat.{regions_at}
+use Rattle.privilege.proofs.flat.Tables.{take_none, take_next, take_done}
+use Rattle.privilege.proofs.flat.regions.regions_of.Goals as goal
+
+pub loop-i-init : goal.loop-i-init
+loop-i-init c = (search take_none, search rules, search rules, search rules)
+
+pub loop-i-preserved : goal.loop-i-preserved
+loop-i-preserved c = (search take_next, search rules, search rules, search rules)
+
+pub returns : goal.returns
+returns c = search take_done

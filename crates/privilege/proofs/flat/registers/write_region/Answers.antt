@@ -1,0 +1,13 @@
+-- `privilege::flat::registers::write_region` meets its contract: the number is no region's, or a field's. Assumes nothing.
+use Rattle.privilege.proofs.flat.Numbers.{parts}
+use Rattle.std.proofs.Common.{rules}
+use Rattle.privilege.proofs.flat.registers.write_region.Goals as goal
+
+pub returns-in_default : goal.returns-in_default
+returns-in_default c = search (parts, rules)
+
+pub write_field-requires : goal.write_field-requires
+write_field-requires c = search (parts, rules)
+
+pub returns : goal.returns
+returns c = search (parts, rules)

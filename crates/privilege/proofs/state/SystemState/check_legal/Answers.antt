@@ -1,0 +1,13 @@
+-- `privilege::state::SystemState::check_legal` meets its contract: the pages decide, or the regions do. Assumes nothing.
+use Rattle.std.proofs.Common.{rules}
+use Rattle.privilege.proofs.Checks.{by_pages, allowed, denied}
+use Rattle.privilege.proofs.state.SystemState.check_legal.Goals as goal
+
+pub returns-then-translating : goal.returns-then-translating
+returns-then-translating c = search by_pages
+
+pub returns-then-allows : goal.returns-then-allows
+returns-then-allows c = search allowed
+
+pub returns : goal.returns
+returns c = search denied

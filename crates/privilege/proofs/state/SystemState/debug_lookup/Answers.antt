@@ -1,0 +1,22 @@
+-- `privilege::state::SystemState::debug_lookup` meets its contract: resident, or walked. Assumes nothing.
+use Rattle.std.proofs.Common.{◌≡◌, length, sym, ◌∙◌, arith, rules}
+use Rattle.common.specs.Lists.{mapped_length}
+use Rattle.mmu.specs.Tlb.Laws.{found_bound}
+use Rattle.privilege.proofs.Views.{view_resident, view_walked}
+use Rattle.privilege.proofs.state.SystemState.debug_lookup.Goals as goal
+
+pub offset_bounds-vm-i : goal.offset_bounds-vm-i
+offset_bounds-vm-i c =
+    let n : length c.args.self.vm-1.tlb ≡ 16 = search (rules, mapped_length) in
+    omega (arith, found_bound _ _ _ (sym c.lookup-slot.ensures ∙ c.slot-1.given.1))
+
+pub bounds-vm-i : goal.bounds-vm-i
+bounds-vm-i c =
+    let n : length c.args.self.vm-1.tlb ≡ 16 = search (rules, mapped_length) in
+    omega (arith, found_bound _ _ _ (sym c.lookup-slot.ensures ∙ c.slot-1.given.1))
+
+pub returns-in-At : goal.returns-in-At
+returns-in-At c = search view_resident
+
+pub returns-in-Nothing : goal.returns-in-Nothing
+returns-in-Nothing c = search view_walked
