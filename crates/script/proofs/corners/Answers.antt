@@ -1,0 +1,6 @@
+-- `script::corners` meets its contract: the figures are `Figures.antt`'s. Assumes nothing.
+use Rattle.script.proofs.Figures.{corners_hold}
+use Rattle.script.proofs.corners.Goals as goal
+
+pub returns : goal.returns
+returns c = corners_hold

@@ -1,0 +1,6 @@
+-- `script::meaning` meets its contract: the laws are `Sentences.antt`'s. Assumes nothing.
+use Rattle.script.proofs.Sentences.{meaning_holds}
+use Rattle.script.proofs.meaning.Goals as goal
+
+pub returns : goal.returns
+returns c = meaning_holds
