@@ -66,7 +66,7 @@ pub record Corners : Type 0 where
       × (cacheable_at (new_cache 0xFFFF_0000 0x20000) 0xFFFF_FFFE ≡ true)
       × (cacheable_at (new_cache 0xFFFF_0000 0x20000) 0xFFFF_FFFF ≡ false)
   -- "a hit costs 0, a miss the penalty": the whole case's two loads
-  pub whole_case_lem :
+  pub whole_case :
       ((loaded (a_cache 0 0x1000 8) 0).stall ≡ 8) × ((loaded (loaded (a_cache 0 0x1000 8) 0).cache 0x1C).stall ≡ 0)
   -- the byte lanes, the high byte first
   pub lanes : (c : L1Cache) → (byte_read c 0 ≡ 0x00) × (byte_read c 1 ≡ 0x0D) × (byte_read c 2 ≡ 0x0D) × (byte_read c 3 ≡ 0x05)

@@ -46,7 +46,7 @@ const LINES: u32 = 1 << (SIZE_SHIFT - LINE_SHIFT);
 const INVALID: u32 = 0xFFFF_FFFF;
 
 #[repr(C)]
-#[derive(Drop)]
+#[derive(Clone, Copy)]
 pub struct Bank {
     pub tags: [u32; 256],
     pub enabled: bool,
@@ -56,7 +56,7 @@ pub struct Bank {
 
 // What an access leaves and whether it hit.
 #[repr(C)]
-#[derive(Drop)]
+#[derive(Clone, Copy)]
 pub struct BankAccess {
     pub bank: Bank,
     pub hit: bool,
@@ -195,7 +195,7 @@ impl Bank {
 }
 
 #[repr(C)]
-#[derive(Drop)]
+#[derive(Clone, Copy)]
 pub struct L1Cache {
     pub i: Bank,
     pub d: Bank,
@@ -208,7 +208,7 @@ pub struct L1Cache {
 
 // What a load or fetch leaves and its stall cycles.
 #[repr(C)]
-#[derive(Drop)]
+#[derive(Clone, Copy)]
 pub struct CacheAccess {
     pub cache: L1Cache,
     pub stall: u32,
