@@ -3,4 +3,4 @@ use Rattle.std.proofs.Common.{rules}
 use Rattle.privilege.proofs.check.permission_of.Goals as goal
 
 pub returns-in-Denied : goal.returns-in-Denied
-returns-in-Denied c = rw c.verdict-1.given.1
+returns-in-Denied c = rw c.in-Denied.is

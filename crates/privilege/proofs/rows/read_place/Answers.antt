@@ -6,9 +6,11 @@ use Rattle.privilege.proofs.Places.{read_out}
 use Rattle.privilege.proofs.rows.read_place.Goals as goal
 
 pub returns-then-at-ge-MAP_END : goal.returns-then-at-ge-MAP_END
-returns-then-at-ge-MAP_END c = (search (read_out, rules), λ b e. absurd_eq (cc))
+returns-then-at-ge-MAP_END c = record { value = search (read_out, rules); by_index = λ b e. absurd_eq (cc) }
 
 pub returns : goal.returns
 returns c =
-    let known = c.shared_slice_known-1.given in
-    (c.read_byte.ensures, λ b e. byte_small _ _ b (λ i. omega (arith, known i)) (sym c.read_byte.ensures ∙ e))
+    record {
+      value = c.read_byte.ensures;
+      by_index = λ b e. byte_small _ _ b (λ i. omega (arith, c.type_inv.mem i)) (sym c.read_byte.ensures ∙ e);
+    }

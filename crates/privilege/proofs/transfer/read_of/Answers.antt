@@ -3,4 +3,4 @@ use Rattle.std.proofs.Common.{rules}
 use Rattle.privilege.proofs.transfer.read_of.Goals as goal
 
 pub returns-in-Value : goal.returns-in-Value
-returns-in-Value c = rw c.content-1.given.1
+returns-in-Value c = rw c.in-Value.is

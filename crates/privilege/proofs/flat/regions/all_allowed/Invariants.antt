@@ -9,7 +9,7 @@ use Rattle.privilege.proofs.flat.regions.all_allowed.Given as goal
 
 abbrev pub invariant-loop-left : goal.invariant-loop-left
 invariant-loop-left l =
-    all_allowed (regions_at l.words) l.access (addresses l.len l.addr) ≡ all_allowed (regions_at l.words) l.access (addresses l.left l.byte)
+    all_allowed (regions_at l.regions) l.access (addresses l.len l.addr) ≡ all_allowed (regions_at l.regions) l.access (addresses l.left l.byte)
 
 abbrev pub decreases-loop-left : goal.decreases-loop-left
 decreases-loop-left l =

@@ -8,7 +8,7 @@ use Rattle.privilege.proofs.flat.regions.some_grants.Given as goal
 
 abbrev pub invariant-loop-i : goal.invariant-loop-i
 invariant-loop-i l =
-    (l.i ≤ 8) × (some_grants (regions_at l.words) l.addr l.access ≡ some_grants (drop l.i (regions_at l.words)) l.addr l.access)
+    (l.i ≤ 8) × (some_grants (regions_at l.regions) l.addr l.access ≡ some_grants (drop l.i (regions_at l.regions)) l.addr l.access)
 
 abbrev pub decreases-loop-i : goal.decreases-loop-i
 decreases-loop-i l =

@@ -1,5 +1,5 @@
 -- `privilege::region::Region::field` meets its contract, field by field. Assumes nothing.
-use Rattle.std.proofs.Common.{ne_eqb}
+use Rattle.std.proofs.Common.{◌≡◌, ne_eqb, arith}
 use Rattle.privilege.specs.Region.{field_of}
 use Rattle.privilege.proofs.region.Region.field.Goals as goal
 
@@ -13,4 +13,7 @@ returns-in-1 c = simp c.in-1.is
 
 pub returns-in_default : goal.returns-in_default
 unfolding field_of
-returns-in_default c = simp (ne_eqb _ _ c.in-0.rest.0.1, ne_eqb _ _ c.in-0.rest.1)
+returns-in_default c =
+    let start : c.args.field ≡ 0 → ⊥ = omega arith in
+    let end : c.args.field ≡ 1 → ⊥ = omega arith in
+    simp (ne_eqb _ _ start, ne_eqb _ _ end)

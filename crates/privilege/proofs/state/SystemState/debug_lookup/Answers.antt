@@ -7,13 +7,13 @@ use Rattle.privilege.proofs.state.SystemState.debug_lookup.Goals as goal
 
 pub offset_bounds-vm-i : goal.offset_bounds-vm-i
 offset_bounds-vm-i c =
-    let n : length c.args.self.vm-1.tlb ≡ 16 = search (rules, mapped_length) in
-    omega (arith, found_bound _ _ _ (sym c.lookup-slot.ensures ∙ c.slot-1.given.1))
+    let n : length c.args.self.vm.tlb ≡ 16 = search (rules, mapped_length) in
+    omega (arith, found_bound _ _ _ (sym c.in-At.ensures))
 
 pub bounds-vm-i : goal.bounds-vm-i
 bounds-vm-i c =
-    let n : length c.args.self.vm-1.tlb ≡ 16 = search (rules, mapped_length) in
-    omega (arith, found_bound _ _ _ (sym c.lookup-slot.ensures ∙ c.slot-1.given.1))
+    let n : length c.args.self.vm.tlb ≡ 16 = search (rules, mapped_length) in
+    omega (arith, found_bound _ _ _ (sym c.in-At.ensures))
 
 pub returns-in-At : goal.returns-in-At
 returns-in-At c = search view_resident

@@ -17,9 +17,8 @@ overflow_mul-value c =
     let p = c in
     let a = p.args in
     let l = p.loop-left in
-    let b = c.byte-1.given.0.0 in
-    let known = p.shared_slice_known-1 in
-    let low : b < 256 = byte_small (lent a.base a.mem.now) _ b (λ i. omega (arith, known.given i)) (sym p.read_byte-byte.ensures ∙ c.byte-1.given.1) in
+    let b = c.in-Value.b in
+    let low : b < 256 = byte_small (lent a.base a.mem.now) _ b (λ i. omega (arith, c.type_inv.mem i)) (sym c.in-Value.ensures) in
     omega (arith, next_fits (a.size - l.left) l.value b (omega arith) l.invariant.1 low)
 
 pub overflow_add-value : goal.overflow_add-value
@@ -27,9 +26,8 @@ overflow_add-value c =
     let p = c in
     let a = p.args in
     let l = p.loop-left in
-    let b = c.byte-1.given.0.0 in
-    let known = p.shared_slice_known-1 in
-    let low : b < 256 = byte_small (lent a.base a.mem.now) _ b (λ i. omega (arith, known.given i)) (sym p.read_byte-byte.ensures ∙ c.byte-1.given.1) in
+    let b = c.in-Value.b in
+    let low : b < 256 = byte_small (lent a.base a.mem.now) _ b (λ i. omega (arith, c.type_inv.mem i)) (sym c.in-Value.ensures) in
     omega (arith, next_fits (a.size - l.left) l.value b (omega arith) l.invariant.1 low)
 
 pub overflow_sub-left : goal.overflow_sub-left
@@ -43,9 +41,8 @@ loop-left-preserved c =
     let p = c in
     let a = p.args in
     let l = p.loop-left in
-    let b = c.byte-1.given.0.0 in
-    let known = p.shared_slice_known-1 in
-    let low : b < 256 = byte_small (lent a.base a.mem.now) _ b (λ i. omega (arith, known.given i)) (sym p.read_byte-byte.ensures ∙ c.byte-1.given.1) in
+    let b = c.in-Value.b in
+    let low : b < 256 = byte_small (lent a.base a.mem.now) _ b (λ i. omega (arith, c.type_inv.mem i)) (sym c.in-Value.ensures) in
     let k : a.size - (l.left - 1) ≡ a.size - l.left + 1 = omega arith in
     (search byte_read_lem, rw k (next_small (a.size - l.left) l.value b l.invariant.1 low), omega arith)
 

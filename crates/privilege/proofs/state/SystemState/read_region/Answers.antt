@@ -9,13 +9,13 @@ returns-in_default c = search read_unknown
 
 pub offset_bounds-self-n : goal.offset_bounds-self-n
 offset_bounds-self-n c =
-    let n : length c.args.t1.regions ≡ 8 = search (rules, mapped_length) in
-    omega (arith, field_bound _ _ _ (sym c.region_field-place.ensures ∙ c.place-1.given.1))
+    let n : length c.args.self.regions ≡ 8 = search (rules, mapped_length) in
+    omega (arith, field_bound _ _ _ (sym c.in-At.ensures))
 
 pub bounds-self-n : goal.bounds-self-n
 bounds-self-n c =
-    let n : length c.args.t1.regions ≡ 8 = search (rules, mapped_length) in
-    omega (arith, field_bound _ _ _ (sym c.region_field-place.ensures ∙ c.place-1.given.1))
+    let n : length c.args.self.regions ≡ 8 = search (rules, mapped_length) in
+    omega (arith, field_bound _ _ _ (sym c.in-At.ensures))
 
 pub returns : goal.returns
 returns c = search read_field
