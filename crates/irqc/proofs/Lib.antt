@@ -3,7 +3,3 @@ pub mod Source
 pub mod Sources
 pub mod Registers
 pub mod Sentences
-pub mod Params
-pub mod ByValue
-pub mod Update
-pub mod Look

@@ -1,6 +1,5 @@
 -- `irqc::IrqController::irq_output` meets its contract: the count of trailing zeros finds what the definition's search does.
 -- Assumes nothing.
-use borrow.Author.Rules.{rules}
 use Rattle.irqc.proofs.Output.{output_some, output_none}
 use Rattle.irqc.proofs.IrqController.irq_output.Goals as goal
 

@@ -1,7 +1,7 @@
 -- `irqc::IrqController::read` meets its contract: each arm is the definition's case of that address. Assumes nothing.
-use borrow.Author.Tests.{ne_eqb}
 use Rattle.irqc.specs.Irqc.{byte_read}
-use borrow.Author.Rules.{rules}
+use Rattle.std.proofs.lemmas.Grind.{common_steps}
+use native.Mathlib.Omega.{arith}
 use Rattle.irqc.proofs.IrqController.read.Goals as goal
 
 pub returns-in-0 : goal.returns-in-0
@@ -22,6 +22,4 @@ returns-in-5 c = simp c.in-5.is
 
 pub returns-in_default : goal.returns-in_default
 unfolding byte_read
-returns-in_default c =
-    let r = c.in-0.rest in
-    simp (ne_eqb _ _ r.0.0.0.1, ne_eqb _ _ r.0.0.1, ne_eqb _ _ r.0.1, ne_eqb _ _ r.1)
+returns-in_default c = grind (arith, common_steps)

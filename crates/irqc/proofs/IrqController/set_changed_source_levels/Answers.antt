@@ -1,8 +1,6 @@
 -- `irqc::IrqController::set_changed_source_levels` meets its contract. The loop's invariant: the sources below `number` are set.
 -- Assumes nothing.
-use Prim.Native.Nat.{◌≤◌, ◌-◌}
 use mathlib.Core.Path.{◌≡◌, ◌∙◌, ap}
-use mathlib.Core.Logic.{⊎_elim}
 use native.Mathlib.Omega.{arith}
 use borrow.Author.Rules.{rules}
 use Rattle.irqc.specs.Irqc.{each_set}
@@ -20,7 +18,13 @@ loop-number-preserved c =
     let l = c.loop-number in
     let h = c.loop-number-test.true in (
       search rules,
-      elim c.if-changed-bit-ne0.branch [ then-changed-bit-ne0 w ↦ next_set a.self l.c c.if-changed-bit-ne0.c a.changed a.levels l.number h l.invariant.1 w.0.taken (w.2 ∙ w.1.ensures) | else-changed-bit-ne0 w ↦ w.1 ∙ next_skip a.self l.c a.changed a.levels l.number h l.invariant.1 w.0.left ],
+      elim c.if-changed-bit-ne0.branch [
+        | then-changed-bit-ne0 w ↦
+            next_set a.self l.c c.if-changed-bit-ne0.c a.changed a.levels l.number h l.invariant.1
+            w.if-changed-bit-ne0.true (w.c-is ∙ w.set_source-c.ensures)
+        | else-changed-bit-ne0 w ↦
+            w.c-is ∙ next_skip a.self l.c a.changed a.levels l.number h l.invariant.1 w.if-changed-bit-ne0.false
+      ],
     )
 
 pub returns : goal.returns

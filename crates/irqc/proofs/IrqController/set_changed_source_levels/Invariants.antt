@@ -1,12 +1,8 @@
 -- `irqc::IrqController::set_changed_source_levels` meets its contract. The loop's invariant: the sources below `number` are set.
 -- Assumes nothing.
 use Prim.Native.Nat.{◌≤◌, ◌-◌}
-use mathlib.Core.Path.{◌≡◌, ◌∙◌, ap}
-use mathlib.Core.Logic.{⊎_elim}
-use native.Mathlib.Omega.{arith}
-use borrow.Author.Rules.{rules}
+use mathlib.Core.Path.{◌≡◌}
 use Rattle.irqc.specs.Irqc.{each_set}
-use Rattle.irqc.proofs.Sources.{next_set, next_skip}
 use Rattle.irqc.proofs.IrqController.set_changed_source_levels.Given as goal
 
 abbrev pub invariant-loop-number : goal.invariant-loop-number

@@ -1,10 +1,8 @@
 -- `irqc::IrqController::set_source` meets its contract: the test of the source's bit is `bit_set`, and each way is the definition's.
 -- Assumes nothing.
-use mathlib.Core.Logic.{⊎_elim}
 use borrow.Author.Tests.{lt-ltb, le-ltb}
 use Rattle.common.specs.Bits.Laws.{one_shifted, clear_bit, set_bit}
 use Rattle.irqc.specs.Irqc.{source_set}
-use borrow.Author.Rules.{rules}
 use Rattle.irqc.proofs.IrqController.set_source.Goals as goal
 use Rattle.irqc.proofs.IrqController.set_source.Goals.{else-self-bit-eq0, then-self-bit-eq0}
 
@@ -19,7 +17,10 @@ returns-after-self-bit-eq0 c =
     let h = c.if-number-ge-SOURCE_COUNT.false in
     let one = one_shifted 16 a.number h in
     let level = a.self.source_level in
-    elim c.if-self-bit-eq0.branch [ then-self-bit-eq0 w ↦ simp (w.2, one, lt-ltb _ _ h, c.if-level.true, clear_bit level a.number (simp one at w.0.taken)) | else-self-bit-eq0 w ↦ simp (w.1, one, lt-ltb _ _ h, c.if-level.true, set_bit level a.number (simp one at w.0.left)) ]
+    elim c.if-self-bit-eq0.branch [
+      | then-self-bit-eq0 w ↦ simp (w.self-is, one, lt-ltb _ _ h, c.if-level.true, clear_bit level a.number (simp one at w.if-self-bit-eq0.true))
+      | else-self-bit-eq0 w ↦ simp (w.self-is, one, lt-ltb _ _ h, c.if-level.true, set_bit level a.number (simp one at w.if-self-bit-eq0.false))
+    ]
 
 pub returns-else-level : goal.returns-else-level
 unfolding source_set

@@ -7,7 +7,6 @@ use lib.Dec.{lit≤}
 use lib.Bits.{bit_and}
 use Rattle.irqc.specs.Irqc.{each_set}
 use Rattle.irqc.proofs.Sources.{none_changed, changed_is}
-use borrow.Author.Rules.{rules}
 use Rattle.irqc.proofs.IrqController.set_source_levels.Goals as goal
 
 pub returns-then-changed-eq0 : goal.returns-then-changed-eq0

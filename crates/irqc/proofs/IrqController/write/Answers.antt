@@ -2,10 +2,9 @@
 -- the definition's sums of bytes. Assumes nothing.
 use mathlib.Core.Path.{◌∙◌}
 use native.Mathlib.Omega.{arith}
-use borrow.Author.Tests.{ne_eqb}
 use Rattle.irqc.specs.Irqc.{byte_written}
 use Rattle.irqc.proofs.Registers.{high_byte, with_high, with_low}
-use borrow.Author.Rules.{rules}
+use Rattle.std.proofs.lemmas.Grind.{common_steps}
 use Rattle.irqc.proofs.IrqController.write.Goals as goal
 
 pub returns-in-0 : goal.returns-in-0
@@ -30,6 +29,4 @@ returns-in-5 c =
 
 pub returns-in_default : goal.returns-in_default
 unfolding byte_written
-returns-in_default c =
-    let r = c.in-0.rest in
-    simp (ne_eqb _ _ r.0.0.0.1, ne_eqb _ _ r.0.0.1, ne_eqb _ _ r.0.1, ne_eqb _ _ r.1)
+returns-in_default c = grind (arith, common_steps)
