@@ -1,0 +1,14 @@
+-- `machine::flat::state::pack` meets its contract. Assumes nothing.
+use Rattle.std.proofs.Common.{rules}
+use Rattle.machine.proofs.Words.{words, packed}
+use Rattle.machine.proofs.flat.state.pack.Goals as goal
+
+pub returns-then-state-ne-STATE_WORDS : goal.returns-then-state-ne-STATE_WORDS
+returns-then-state-ne-STATE_WORDS c = search (words, rules)
+
+pub returns : goal.returns
+returns c =
+    let put = c in
+    let cache = put in
+    let sys = cache in
+    packed _ _ _ (search rules) (search rules) sys.pack.ensures _ _ (search rules) cache.pack-2.ensures put.put_controller.ensures

@@ -1,0 +1,8 @@
+-- `machine::state::Machine::reset` meets its contract. Assumes nothing.
+use Rattle.machine.specs.State.{reset_of}
+use Rattle.std.proofs.Common.{rules}
+use Rattle.machine.proofs.state.Machine.reset.Goals as goal
+
+pub returns : goal.returns
+unfolding reset_of
+returns c = cc
