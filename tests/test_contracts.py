@@ -7,8 +7,15 @@ import unittest
 
 from tests.stored import ROOT
 
-OWN = "tables.write.write_tables.Reads.Learnt"
-LOAD = "cache.flat.load.Reads.Learnt (λ κs a. SameWords cacheWords cacheAt (a .0 .now))"
+
+def tells(function):
+    """What a function's contract tells, as crates/contracts writes it."""
+    return f"(λ κs a r e. Claim (({function}.clauses 𝓛 mem run κs a).ensures tt r e) (r_last _))"
+
+
+OWN = tells("tables.write.write_tables")
+LOAD = tells("cache.flat.load") + " (λ κs a. SameWords cache_words cache_at a.0.now)"
+WHOLE = "(machine.run.list_whole.clauses 𝓛 mem run κs a).ensures tt r e) (r_join _ _ (r_last _) (r_last _))"
 
 
 def copied(folder):
@@ -51,28 +58,31 @@ class Contracts(unittest.TestCase):
         self.assertEqual(self.said(), (0, []))
 
     def test_another_functions_contract(self):
-        other = "tables.mapping.good_list.Reads.Learnt"
-        self.refuses("crates/contracts/specs/Tables.antt", OWN, other,
+        self.refuses("crates/contracts/specs/Tables.antt", OWN, tells("tables.mapping.good_list"),
                      "tables::write::write_tables is stated in crates/contracts with another contract than its own")
 
     def test_a_contract_that_says_nothing(self):
         self.refuses("crates/contracts/specs/Tables.antt", OWN, "(λ κs a r e. Unit)",
                      "tables::write::write_tables is stated in crates/contracts with another contract than its own")
 
+    def test_a_reading_that_tells_nothing(self):
+        self.refuses("crates/contracts/specs/Machine.antt", WHOLE, WHOLE.replace("(r_last _) (r_last _)", "(r_last _) (r_whole _)"),
+                     "machine::run::list_whole is stated in crates/contracts with another contract than its own")
+
     def test_a_function_without_a_statement(self):
         self.refuses("crates/contracts/specs/Tables.antt", "Settled tables.write.write_tables.ended", "Settled tables.write.ended",
                      "tables::write::write_tables is not settled in crates/contracts")
 
     def test_a_relation_without_a_name(self):
-        self.refuses("crates/contracts/specs/Cache.antt", LOAD, "cache.flat.load.Reads.Learnt (λ κs a o o′. Unit)",
+        self.refuses("crates/contracts/specs/Cache.antt", LOAD, tells("cache.flat.load") + " (λ κs a o o'. Unit)",
                      "cache::flat::load is `SettledAs` by a relation that crates/contracts does not name",
                      "cache::flat::load is `SettledAs` by a relation or a reading that docs/CONTRACTS.md does not explain")
 
     def test_a_reading_that_forgets_all(self):
-        self.refuses("crates/contracts/specs/Cache.antt", LOAD, LOAD.replace("cacheAt", "(λ l. 0)"),
+        self.refuses("crates/contracts/specs/Cache.antt", LOAD, LOAD.replace("cache_at", "(λ l. 0)"),
                      "cache::flat::load is `SettledAs` by a relation that crates/contracts does not name",
                      "cache::flat::load is `SettledAs` by a relation or a reading that docs/CONTRACTS.md does not explain")
-        self.refuses("crates/contracts/specs/Cache.antt", LOAD, LOAD.replace("cacheAt", "nothingAt"),
+        self.refuses("crates/contracts/specs/Cache.antt", LOAD, LOAD.replace("cache_at", "nothing_at"),
                      "cache::flat::load is `SettledAs` by a relation or a reading that docs/CONTRACTS.md does not explain")
 
     def test_an_exception_that_is_not_listed(self):

@@ -12,7 +12,7 @@ use Rattle.memory.specs.Gate.{Gate, Refused}
 use Rattle.privilege.specs.declared.registers.SrWritten.{SrWritten}
 use Rattle.privilege.specs.declared.trap.Returned.{Returned}
 use Rattle.privilege.specs.declared.trap.Trapped.{Trapped}
-use Rattle.contracts.specs.Contracts.{Contracts}
+use Rattle.contracts.specs.Libraries.{Contracts}
 use Rattle.contracts.specs.Common.{Common}
 use Rattle.contracts.specs.Layout.{Layout}
 use Rattle.contracts.specs.Text.{Text}

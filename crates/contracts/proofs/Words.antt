@@ -16,6 +16,7 @@ use mathlib.Core.Bool.{true, false}
 use mathlib.Core.Logic.{◌⊎◌, inl, inr, ⊎_elim}
 use native.Mathlib.Omega.{arith}
 use borrow.Author.Tests.{eqb-true, eqb-false}
+use borrow.Fn.Read.{r_last}
 use contract.Lifetimes.{Lfts}
 use denote.Triple.Entry.{Args}
 use lib.Dec.{eqb}
@@ -23,7 +24,7 @@ use lib.ListN.{length, get_or, replicate}
 use Rattle.common.specs.Cases.{bool_is}
 use Rattle.layout.specs.Records.{records_of}
 use Rattle.layout.specs.Words.{word_at, Over}
-use Rattle.mmu.proofs.flat.flush
+use Rattle.mmu.specs.contracts.flat.flush
 use Rattle.listing.specs.declared.Line.{Line}
 use Rattle.machine.specs.Flat.{accessed_as, stepped_as}
 use Rattle.machine.specs.declared.access.Accessed.{Accessed}
@@ -44,7 +45,7 @@ use Rattle.privilege.specs.Flat.{sys_at, reg_at}
 use Rattle.privilege.specs.Flat.Access.{at_once, GrantsWord}
 use Rattle.privilege.specs.declared.flat.access.Grant.{Grant}
 use Rattle.privilege.specs.declared.state.SystemState.{SystemState}
-use Rattle.contracts.specs.Settled.{Settled}
+use Rattle.contracts.specs.Settled.{Settled, Claim, 𝓛, mem, run}
 use Rattle.contracts.specs.Words.{SameWords}
 
 -- ---- one `Over`, two outcomes
@@ -137,14 +138,14 @@ module _ {M M' : Machine} {b b' bytes : List ℕ} where
 -- ---- words that are left open
 
 -- a flushed state of which the first entry's valid word is w
-abbrev flushedWords : List ℕ → ℕ → List ℕ
-flushedWords l w = word_at l 0 ∷ word_at l 1 ∷ word_at l 2 ∷ 0 ∷ 0 ∷ w ∷ replicate 63 0
+abbrev flushed_words : List ℕ → ℕ → List ℕ
+flushed_words l w = word_at l 0 ∷ word_at l 1 ∷ word_at l 2 ∷ 0 ∷ 0 ∷ w ∷ replicate 63 0
 
 module _ (κs : Lfts 1) (a : Args (flush.ended).signature κs) (long : length a.0.now ≡ vm_words) where
-  pub open_words : ¬ (Settled flush.ended flush.Reads.Learnt)
+  pub open_words : ¬ (Settled flush.ended (λ κs a r e. Claim ((flush.clauses 𝓛 mem run κs a).ensures tt r e) (r_last _)))
   unfolding vm_at tlb_at entry_at records_of flushed no_entries
   open_words settled =
       let l : List ℕ = a.0.now in
-      let same = settled.coincide {κs = κs} {a = a} {r = tt} {r' = tt} {m = (flushedWords l 0, tt)} {m' = (flushedWords l 2, tt)} (λ h. (refl, refl), λ h. absurd (h long)) (λ h. (refl, refl), λ h. absurd (h long)) in
+      let same = settled.coincide {κs = κs} {a = a} {r = tt} {r' = tt} {m = (flushed_words l 0, tt)} {m' = (flushed_words l 2, tt)} (λ h. (refl, refl), λ h. absurd (h long)) (λ h. (refl, refl), λ h. absurd (h long)) in
       let valid : ◌≡◌ {A = ℕ} 0 2 = λ i. get_or (same i).1.0 5 0 in
       absurd (omega arith)

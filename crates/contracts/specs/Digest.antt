@@ -1,8 +1,9 @@
 -- Digests of words: two outcomes that a contract of `digest` admits coincide (`Settled.antt`).
-use Rattle.contracts.specs.Settled.{Settled}
-use Rattle.digest.proofs as digest
+use borrow.Fn.Read.{r_last}
+use Rattle.contracts.specs.Settled.{Settled, Claim, 𝓛, mem, run}
+use Rattle.digest.specs.contracts as digest
 
 pub record Digest : Type 0 where
-  pub fnv_byte : Settled digest.fnv_byte.ended digest.fnv_byte.Reads.Learnt
-  pub fnv_word : Settled digest.fnv_word.ended digest.fnv_word.Reads.Learnt
-  pub fnv_words : Settled digest.fnv_words.ended digest.fnv_words.Reads.Learnt
+  pub fnv_byte : Settled digest.fnv_byte.ended (λ κs a r e. Claim ((digest.fnv_byte.clauses 𝓛 mem run κs a).ensures tt r e) (r_last _))
+  pub fnv_word : Settled digest.fnv_word.ended (λ κs a r e. Claim ((digest.fnv_word.clauses 𝓛 mem run κs a).ensures tt r e) (r_last _))
+  pub fnv_words : Settled digest.fnv_words.ended (λ κs a r e. Claim ((digest.fnv_words.clauses 𝓛 mem run κs a).ensures tt r e) (r_last _))

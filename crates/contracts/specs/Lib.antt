@@ -15,4 +15,4 @@ pub mod Listing
 pub mod Machine
 pub mod Bridge
 pub mod Race
-pub mod Contracts
+pub mod Libraries

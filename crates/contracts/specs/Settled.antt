@@ -8,20 +8,18 @@
 --   SettledAs T P S   == two outcomes that P admits for one input are the same by S: for words of which P fixes what they stand for
 --   theorem           == the signature of a function with no parameter and no answer, which only promises
 --   Claim P reading   == what whoever has the clause P learns, by a reading of it
---   𝓤, H, A, mem, run == the closed model of the logic, at which a clause is read
+--   𝓛, mem, run       == the closed model of the logic, at which a clause is read
 --
 -- Choices that a reader may question. A state goes in by value and comes back in the answer, so the answer holds it. The last contents
--- (`Lasts`) have a part for each parameter: its last value for a `&mut`, nothing for one that cannot change. For a function whose
--- proof the borrow checker writes, P is the generated reading of its contract, `Reads.Learnt`: what a caller learns. A function that
--- is proved by hand has none; its clause is read here. No contract below has a `requires`, so an input is any input. `SettledAs` says less
+-- (`Lasts`) have a part for each parameter: its last value for a `&mut`, nothing for one that cannot change. P is the function's own
+-- contract, the generated `clauses`, read here as the borrow checker reads it for a caller: each clause as one plain fact (`r_last`), and all of
+-- them together (`r_join`). A reading is proved, so it tells no more than the clauses. No contract below has a `requires`, so an input is any input. `SettledAs` says less
 -- than `Settled`: each relation that it is used with says what is left open, and docs/CONTRACTS.md why.
 use Rattle.std.specs.Prelude.{[], ◌≡◌}
-use seplogic.Ra.Ura.{Ura}
 use base.Logic.{emp}
 use prog.Memory.{Memory}
 use prog.Routine.{Routine}
-use prog.Wp.{Heap}
-use ghost.Atoms.{Atoms}
+use types.Logic.{Logic}
 use contract.Lifetimes.{Lfts}
 use contract.Monad.{Fun}
 use Rattle.std.specs.Borrow.{unit}
@@ -61,20 +59,14 @@ theorem = record {
   kept = tt;
 }
 
-abbrev pub 𝓤 : Ura w₀.M
-𝓤 = w₀.𝓤
-
-abbrev pub H : Heap 𝓤
-H = w₀.𝓛.H
-
-abbrev pub A : Atoms 𝓤
-A = w₀.𝓛.A
+abbrev pub 𝓛 : Logic w₀.𝓤
+𝓛 = w₀.𝓛
 
 abbrev pub mem : Memory → Pr w₀
 mem = w₀.𝓜.mem
 
-abbrev pub run : Routine → Fun 𝓤
-run = w₀.𝓡.run
+abbrev pub run : Routine → Fun w₀.𝓤
+run = w₀.𝓡.returns
 
 abbrev pub Claim : (P : Pr w₀) → ReadAt w₀ (λ w. emp w.𝓤) no_know P → Type 0
 Claim P reading = AllOf reading.tells

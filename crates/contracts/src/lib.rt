@@ -3,7 +3,7 @@
 // Nothing here is run: the contract is a theorem over the contracts of the other crates, as the check reads them.
 #![tactic(auto)]
 
-ghost use Rattle.contracts.specs.Contracts.{Contracts};
+ghost use Rattle.contracts.specs.Libraries.{Contracts};
 
 pub fn contracts()
     ensures { Contracts }

@@ -1,12 +1,13 @@
 -- Every contract of the libraries, crate by crate: any two outcomes that it admits for one input coincide (`Settled.antt`).
 use Rattle.std.specs.Prelude.{◌≡◌, length}
+use borrow.Fn.Read.{r_last}
 use contract.Lifetimes.{Lfts}
 use denote.Triple.Clauses.{Lasts}
 use denote.Triple.Entry.{Args}
 use Rattle.memory.specs.contracts.put_byte
 use Rattle.mmu.specs.Flat.{vm_words}
-use Rattle.mmu.proofs.flat.flush
-use Rattle.contracts.specs.Settled.{Settled, theorem}
+use Rattle.mmu.specs.contracts.flat.flush
+use Rattle.contracts.specs.Settled.{Settled, theorem, Claim, 𝓛, mem, run}
 use Rattle.contracts.specs.Common.{Common}
 use Rattle.contracts.specs.Layout.{Layout}
 use Rattle.contracts.specs.Text.{Text}
@@ -52,4 +53,4 @@ pub record Contracts : Type 0 where
       Lasts put_byte.ended κs a →
       ¬ (Settled put_byte.ended (λ κs a r e. Unit {0}))
   -- `SettledAs` is needed: a flush of 69 words fixes what they stand for, and not the words
-  pub open_words : (κs : Lfts 1) (a : Args (flush.ended).signature κs) → length a.0.now ≡ vm_words → ¬ (Settled flush.ended flush.Reads.Learnt)
+  pub open_words : (κs : Lfts 1) (a : Args (flush.ended).signature κs) → length a.0.now ≡ vm_words → ¬ (Settled flush.ended (λ κs a r e. Claim ((flush.clauses 𝓛 mem run κs a).ensures tt r e) (r_last _)))
