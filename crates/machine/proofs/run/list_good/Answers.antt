@@ -4,8 +4,4 @@ use Rattle.std.proofs.Common.{rules}
 use Rattle.machine.proofs.run.list_good.Goals as goal
 
 pub returns : goal.returns
-returns c =
-    let run = c in
-    let copied = run in
-    let start = copied in
-    good_run_lem _ _ _ _ _ _ start.args.mem-1.now run.new-machine.ensures copied.copy_image.ensures start.requires run.run-ran.ensures.1.1.0
+returns c = good_run_lem _ _ _ _ _ _ c.args.mem.now c.new-machine.ensures c.copy_image.ensures c.requires c.run-ran.ensures.place_after

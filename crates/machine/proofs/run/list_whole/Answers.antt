@@ -4,4 +4,4 @@ use Rattle.machine.proofs.Runs.{holds_whole}
 use Rattle.machine.proofs.run.list_whole.Goals as goal
 
 pub returns : goal.returns
-returns c = (c.list.ensures, holds_whole _ _ _ _ (search rules) c.list.ensures)
+returns c = record { result_after = c.list.ensures; upper_bound = holds_whole _ _ _ _ (search rules) c.list.ensures }

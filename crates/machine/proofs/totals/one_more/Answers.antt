@@ -3,4 +3,4 @@ use Rattle.std.proofs.Common.{rules}
 use Rattle.machine.proofs.totals.one_more.Goals as goal
 
 pub returns-then-more : goal.returns-then-more
-returns-then-more c = rw c.if-more.true c.wrapping_add_u64.ensures
+returns-then-more c = rw c.if-more.true c.wrapping_add_u64.ensures.value

@@ -5,6 +5,5 @@ use Rattle.machine.proofs.state.Machine.run.Goals as goal
 
 pub returns : goal.returns
 returns c =
-    let done = c in
-    let q = run_by_value _ _ _ _ _ _ (search rules) done.pack.ensures c.unpack.ensures _ _ _ _ _ _ _ _ _ _ done.run-listed.ensures in
-    (q.0, (q.1, (q.2, q.3)))
+    let q = run_by_value _ _ _ _ _ _ (search rules) c.pack.ensures c.unpack.ensures _ _ _ _ _ _ _ _ _ _ c.run-listed.ensures in
+    record { machine_value = q.0; mem_after = q.1; place_after = q.2; totals_value = q.3 }
