@@ -27,8 +27,7 @@ use Rattle.privilege.specs.declared.registers.SrRead.TheVariants.{Value}
 use Rattle.privilege.specs.declared.state.SystemState.{SystemState}
 use Rattle.cases.specs.Cases.{Cases, Eight, Leads, resident}
 use Rattle.cases.proofs.Regions.{p6_allowed, p6_denied, p7_allowed, p7_denied, p7_fetch}
-use Rattle.cases.proofs.cases.Statement.{statement}
-use Rattle.cases.proofs.cases.Tie as tie
+use Rattle.cases.proofs.cases.Goals as goal
 
 -- region 7 has its flags back, masked
 flags-back : (s : SystemState) (reg : List ℕ) → Eight s → read_back s reg 0x2E 0xFF ≡ Value 7
@@ -65,8 +64,5 @@ table =
       p12 = λ s reg user pu. rw (user, pu);
     }
 
-returns : tie.Need-returns
+pub returns : goal.returns
 returns c = table
-
-pub cases-spec : {M : Type 1} → statement M
-cases-spec = tie.close (tie.spec returns)
