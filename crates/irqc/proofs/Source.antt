@@ -2,10 +2,10 @@
 --
 --   rise, level_is, level_other   == the pending and the level bits of a controller whose source n is set
 --   enable_is, fits               == its enable word, and that its words fit
---   Alike i c d                   == c and d have the IsSame two bits of source i
+--   Alike i c d                   == c and d have the same two bits of source i
 --   own, others                   == setting a source goes by its own two bits, and leaves those of others
 --   unmoved, kept, again          == a source that is set to the level that it has changes nothing
---   IsSame                          == controllers that are alike at every source are equal
+--   same                            == controllers that are alike at every source are equal
 -- Assumes nothing.
 use mathlib.Core.Path.{◌≡◌, refl, sym, ap, ap₂, ◌∙◌}
 use mathlib.Core.Logic.{⊎_elim}
@@ -124,8 +124,8 @@ unmoved c n i level hn hi e =
 pub again : (c : IrqController) (n : ℕ) (level : Bool) → n < 16 → Alike n (source_set (source_set c n level) n level) (source_set c n level)
 again c n level h = unmoved (source_set c n level) n n level h h (level_is c n level h)
 
-pub IsSame : (c d : IrqController) → Controller c → Controller d → c.enable ≡ d.enable → ((i : ℕ) → i < 16 → Alike i c d) → c ≡ d
-IsSame c d hc hd e alike =
+pub same : (c d : IrqController) → Controller c → Controller d → c.enable ≡ d.enable → ((i : ℕ) → i < 16 → Alike i c d) → c ≡ d
+same c d hc hd e alike =
     let p = same_bits 16 c.pending d.pending hc.0 hd.0 (λ i h. (alike i h).pending) in
     let l = same_bits 16 c.source_level d.source_level hc.2 hd.2 (λ i h. (alike i h).level) in
     words c.pending d.pending c.enable d.enable c.source_level d.source_level p e l
@@ -135,4 +135,4 @@ IsSame c d hc hd e alike =
     words p p' e e' l l' hp he hl = rw (hp, he, hl)
 
 pub kept : (c : IrqController) (n : ℕ) (level : Bool) → Controller c → n < 16 → bit_set c.source_level n ≡ level → source_set c n level ≡ c
-kept c n level hc hn e = IsSame (source_set c n level) c (fits c n level hc hn) hc (enable_is c n level) (λ i hi. unmoved c n i level hn hi e)
+kept c n level hc hn e = same (source_set c n level) c (fits c n level hc hn) hc (enable_is c n level) (λ i hi. unmoved c n i level hn hi e)

@@ -15,7 +15,7 @@ use Rattle.common.specs.Bits.Laws.{bit_and_lem, bit_xor_lem, bit_of_zero, other,
 use Rattle.irqc.specs.Irqc.{source_set, each_set}
 use Rattle.irqc.specs.Meaning.{Controller}
 use Rattle.irqc.specs.declared.IrqController.{IrqController}
-use Rattle.irqc.proofs.Source.{enable_is, fits, Alike, itself, turned, joined, own, others, again, IsSame, kept}
+use Rattle.irqc.proofs.Source.{enable_is, fits, Alike, itself, turned, joined, own, others, again, same, kept}
 
 module _ (c : IrqController) (mask levels : ℕ) where
   each_fits : (k : ℕ) → Controller c → k ≤ 16 → Controller (each_set c mask levels k)
@@ -101,7 +101,7 @@ pub one_more : (c : IrqController) (mask levels n : ℕ) → Controller c → n 
 one_more c mask levels n h hn =
     let before = each_set c mask levels 16 in
     let f = each_fits c mask levels 16 h (lit≤ tt) in
-    IsSame (each_set c (with_bit mask n) levels 16) (source_set before n (bit_set levels n))
+    same (each_set c (with_bit mask n) levels 16) (source_set before n (bit_set levels n))
     (each_fits c (with_bit mask n) levels 16 h (lit≤ tt))
     (fits before n (bit_set levels n) f hn)
     (each_enable c (with_bit mask n) levels 16 ∙ sym (enable_is before n (bit_set levels n) ∙ each_enable c mask levels 16))

@@ -22,7 +22,7 @@ pub corners_hold : Corners
 unfolding line_text end_text refused_text lines_from listing_text
 corners_hold =
     record {
-      whole_case_lem = simp (hex_eight, one_digit 0 refl, one_digit 1 refl, one_digit 2 refl, one_digit 3 refl, one_digit 4 refl, one_digit 8 refl);
+      whole_case = simp (hex_eight, one_digit 0 refl, one_digit 1 refl, one_digit 2 refl, one_digit 3 refl, one_digit 4 refl, one_digit 8 refl);
       no_event = simp (one_digit 0 refl);
       long = simp (hex_eight, last_index, ten, one_digit 0 refl);
       refused = simp (one_digit 4 refl);

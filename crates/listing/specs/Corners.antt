@@ -10,7 +10,7 @@ abbrev pub a_line : ℕ → ℕ → ℕ → ℕ → Line
 a_line letter digits stall reads = record { letter = letter; digits = digits; stall = stall; reads = reads }
 
 pub record Corners : Type 0 where
-  pub whole_case_lem :
+  pub whole_case :
       listing_text (a_line 86 0x0102_0304 8 0 ∷ a_line 86 0 0 0 ∷ a_line 78 3 0 0 ∷ a_line 66 0 0 0 ∷ [])
       ≡ ascii "0 V 01020304 8 0\n1 V 00000000 0 0\n2 N 00000003 0 0\n3 B 00000000 0 0\nend 4\n"
   pub no_event : listing_text [] ≡ ascii "end 0\n"
