@@ -27,4 +27,4 @@ module _ (l l' : List ℕ) (n : length l ≡ state_words) where
     pub bytes_left : bytes' ≡ (step_of (machine_at l) (lent base bytes) e).memory.bytes
     bytes_left = (p.0 n).1.1
 
-pub ruleset lent-steps = (line_shown, machine_left, bytes_left)
+pub ruleset lent_steps = (line_shown, machine_left, bytes_left)

@@ -124,7 +124,7 @@ module _ (l : List ℕ) (pa j t : ℕ) (ej : j ≡ index_of pa) (et : t ≡ tag_
   pub line_other : (get_or l (tag_word + j) 0 ≡ t → ⊥) → bank_at l ≡ line_dropped (bank_at l) pa
   line_other e = drop_other (bank_at l) pa j t ej et (λ q. e (sym (tag_get l j (omega arith)) ∙ q))
 
-pub ruleset line-drops = (line_held, line_other)
+pub ruleset line_drops = (line_held, line_other)
 
 module _ (l new : List ℕ) (long : length l ≡ bank_words) (same : length new ≡ length (part tag_word 256 l)) where
   fits : length new ≡ 256

@@ -258,7 +258,7 @@ pub word_lost : (all : Bool) → all ≡ false → outcome.BusError ≡ write_ou
 unfolding write_outcome
 word_lost all h = rw h
 
-pub ruleset word-outcomes = (word_value, word_outside, word_done, word_lost)
+pub ruleset word_outcomes = (word_value, word_outside, word_done, word_lost)
 
 pub map_is : (base : ℕ) (bytes : List ℕ) (good : Bool) → good ≡ good_map base (length bytes) → good ≡ true → map_good (lent base bytes) ≡ true
 map_is base bytes good is h = sym is ∙ h

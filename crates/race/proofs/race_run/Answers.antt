@@ -4,4 +4,4 @@ use borrow.Author.Rules.{rules}
 use Rattle.race.proofs.race_run.Goals as goal
 
 pub returns : goal.returns
-returns c = (search (race_totals, rules), search (race_bytes, rules))
+returns c = record { value = search (race_totals, rules); mem_after = search (race_bytes, rules) }

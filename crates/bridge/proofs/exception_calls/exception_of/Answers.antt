@@ -1,5 +1,5 @@
 -- `bridge::exception_calls::exception_of` meets its contract: each arm is the definition's case of its number. Assumes nothing.
-use borrow.Author.Tests.{ne_eqb}
+use Rattle.std.proofs.Common.{◌≡◌, ne_eqb, arith}
 use Rattle.bridge.specs.Exception.{exception_of}
 use Rattle.bridge.proofs.exception_calls.exception_of.Goals as goal
 
@@ -26,4 +26,9 @@ returns-in-4 c = simp c.in-4.is
 pub returns-in_default : goal.returns-in_default
 unfolding exception_of
 returns-in_default c =
-    simp (ne_eqb _ _ c.in-0.rest.0.0.0.0.1, ne_eqb _ _ c.in-0.rest.0.0.0.1, ne_eqb _ _ c.in-0.rest.0.0.1, ne_eqb _ _ c.in-0.rest.0.1, ne_eqb _ _ c.in-0.rest.1)
+    let not_zero : c.args.number ≡ 0 → ⊥ = omega arith in
+    let not_one : c.args.number ≡ 1 → ⊥ = omega arith in
+    let not_two : c.args.number ≡ 2 → ⊥ = omega arith in
+    let not_three : c.args.number ≡ 3 → ⊥ = omega arith in
+    let not_four : c.args.number ≡ 4 → ⊥ = omega arith in
+    simp (ne_eqb _ _ not_zero, ne_eqb _ _ not_one, ne_eqb _ _ not_two, ne_eqb _ _ not_three, ne_eqb _ _ not_four)

@@ -25,4 +25,4 @@ returns-in-ProtectionFault c = rw c.in-ProtectionFault.is
 
 pub returns-in-PageFault : goal.returns-in-PageFault
 unfolding address_of
-returns-in-PageFault c = rw c.e-1.given.1
+returns-in-PageFault c = rw c.in-PageFault.is
