@@ -1,6 +1,5 @@
 -- `tables::export::in_numbers` meets its contract, case by case. Assumes nothing.
 use Rattle.tables.specs.Refusal.{in_numbers}
-use borrow.Author.Rules.{rules}
 use Rattle.tables.proofs.export.in_numbers.Goals as goal
 
 pub returns-in-Written : goal.returns-in-Written

@@ -1,6 +1,5 @@
 -- `tables::export::tables_write` meets its contract, by that of `write_tables`. Assumes nothing.
 use Rattle.tables.proofs.Answered.{numbered}
-use borrow.Author.Rules.{rules}
 use Rattle.tables.proofs.export.tables_write.Goals as goal
 
 pub returns : goal.returns

@@ -1,8 +1,5 @@
 -- `tables::mapping::all_good` meets its contract. The loop's invariant: the whole test is the test from place `k` on. Assumes nothing.
-use Prim.Native.Nat.{◌≤◌, ◌-◌}
-use mathlib.Core.Path.{◌≡◌, refl}
-use lib.ListN.{length, drop}
-use Rattle.tables.specs.Mapping.{mappings, all_good}
+use mathlib.Core.Path.{refl}
 use Rattle.tables.proofs.Judged.{all_done, one_bad, one_good}
 use borrow.Author.Rules.{rules}
 use Rattle.tables.proofs.mapping.all_good.Goals as goal

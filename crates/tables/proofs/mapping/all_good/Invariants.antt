@@ -1,10 +1,8 @@
 -- `tables::mapping::all_good` meets its contract. The loop's invariant: the whole test is the test from place `k` on. Assumes nothing.
 use Prim.Native.Nat.{◌≤◌, ◌-◌}
-use mathlib.Core.Path.{◌≡◌, refl}
+use mathlib.Core.Path.{◌≡◌}
 use lib.ListN.{length, drop}
 use Rattle.tables.specs.Mapping.{mappings, all_good}
-use Rattle.tables.proofs.Judged.{all_done, one_bad, one_good}
-use borrow.Author.Rules.{rules}
 use Rattle.tables.proofs.mapping.all_good.Given as goal
 
 abbrev pub invariant-loop-k : goal.invariant-loop-k

@@ -1,9 +1,6 @@
 -- `tables::mapping::ascending` meets its contract. The loop's invariant: the whole test is the test from place `k` on, where the next page
 -- has to be at least `least`. Assumes nothing.
-use Prim.Native.Nat.{◌≤◌, ◌-◌, ◌^◌}
-use mathlib.Core.Path.{◌≡◌, refl}
-use lib.ListN.{length, drop}
-use Rattle.tables.specs.Mapping.{ascending_from}
+use mathlib.Core.Path.{refl}
 use Rattle.tables.proofs.Judged.{order_done, order_broken, order_kept}
 use borrow.Author.Rules.{rules}
 use native.Mathlib.Omega.{arith}

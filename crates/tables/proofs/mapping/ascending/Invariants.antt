@@ -1,12 +1,9 @@
 -- `tables::mapping::ascending` meets its contract. The loop's invariant: the whole test is the test from place `k` on, where the next page
 -- has to be at least `least`. Assumes nothing.
 use Prim.Native.Nat.{◌≤◌, ◌-◌, ◌^◌}
-use mathlib.Core.Path.{◌≡◌, refl}
+use mathlib.Core.Path.{◌≡◌}
 use lib.ListN.{length, drop}
 use Rattle.tables.specs.Mapping.{ascending_from}
-use Rattle.tables.proofs.Judged.{order_done, order_broken, order_kept}
-use borrow.Author.Rules.{rules}
-use native.Mathlib.Omega.{arith}
 use Rattle.tables.proofs.mapping.ascending.Given as goal
 
 abbrev pub invariant-loop-k : goal.invariant-loop-k

@@ -1,6 +1,5 @@
 -- `tables::mapping::good_list` meets its contract: each test is one of the definition's. Assumes nothing.
 use Rattle.tables.proofs.Judged.{list_long, ppns_other, bits_other, by_order}
-use borrow.Author.Rules.{rules}
 use Rattle.tables.proofs.mapping.good_list.Goals as goal
 
 pub returns-then-count-gt-MOST_MAPPINGS : goal.returns-then-count-gt-MOST_MAPPINGS

@@ -1,10 +1,6 @@
 -- `tables::mapping::leaf_at` meets its contract. The loop's invariant: the leaf is that of the list from place `k` on. Assumes nothing.
-use Prim.Native.Nat.{◌-◌}
-use mathlib.Core.Path.{◌≡◌, refl}
-use lib.ListN.{length, drop}
-use Rattle.tables.specs.Mapping.{mappings, leaf_at}
+use mathlib.Core.Path.{refl}
 use Rattle.tables.proofs.Judged.{leaf_none, leaf_here, leaf_past, leaf_later}
-use borrow.Author.Rules.{rules}
 use Rattle.tables.proofs.mapping.leaf_at.Goals as goal
 
 pub loop-k-init : goal.loop-k-init

@@ -1,10 +1,8 @@
 -- `tables::mapping::leaf_at` meets its contract. The loop's invariant: the leaf is that of the list from place `k` on. Assumes nothing.
 use Prim.Native.Nat.{◌-◌}
-use mathlib.Core.Path.{◌≡◌, refl}
+use mathlib.Core.Path.{◌≡◌}
 use lib.ListN.{length, drop}
 use Rattle.tables.specs.Mapping.{mappings, leaf_at}
-use Rattle.tables.proofs.Judged.{leaf_none, leaf_here, leaf_past, leaf_later}
-use borrow.Author.Rules.{rules}
 use Rattle.tables.proofs.mapping.leaf_at.Given as goal
 
 abbrev pub invariant-loop-k : goal.invariant-loop-k

@@ -1,10 +1,7 @@
 -- `tables::write::frames_for` meets its contract. The loop's invariant: the frames counted and those of the directories to come are all.
 -- Assumes nothing.
-use Prim.Native.Nat.{◌≤◌, ◌-◌, ◌+◌}
-use mathlib.Core.Path.{◌≡◌, refl}
-use mathlib.Core.Logic.{⊎_elim}
-use lib.ListN.{length, drop}
-use Rattle.tables.specs.Tables.{directories_after, frames_for}
+use mathlib.Core.Path.{refl}
+use Rattle.tables.specs.Tables.{frames_for}
 use Rattle.tables.proofs.Written.{count_done, count_same, count_new}
 use borrow.Author.Rules.{rules}
 use native.Mathlib.Omega.{arith}
@@ -16,8 +13,7 @@ unfolding frames_for
 loop-k-init c = (refl, search rules, search rules)
 
 pub loop-k-preserved : goal.loop-k-preserved
-loop-k-preserved c =
-    (
+loop-k-preserved c = (
   elim c.if-directory-last.branch [ then-directory-last w ↦ search count_new | else-directory-last w ↦ search count_same ],
   search rules,
   elim c.if-directory-last.branch [ then-directory-last w ↦ omega arith | else-directory-last w ↦ omega arith ],

@@ -1,13 +1,9 @@
 -- `tables::write::frames_for` meets its contract. The loop's invariant: the frames counted and those of the directories to come are all.
 -- Assumes nothing.
 use Prim.Native.Nat.{◌≤◌, ◌-◌, ◌+◌}
-use mathlib.Core.Path.{◌≡◌, refl}
-use mathlib.Core.Logic.{⊎_elim}
+use mathlib.Core.Path.{◌≡◌}
 use lib.ListN.{length, drop}
 use Rattle.tables.specs.Tables.{directories_after, frames_for}
-use Rattle.tables.proofs.Written.{count_done, count_same, count_new}
-use borrow.Author.Rules.{rules}
-use native.Mathlib.Omega.{arith}
 use Rattle.tables.proofs.write.frames_for.Given as goal
 
 abbrev pub invariant-loop-k : goal.invariant-loop-k

@@ -1,6 +1,5 @@
 -- `tables::write::good_run` meets its contract: each test is one of the definition's. Assumes nothing.
 use Rattle.tables.proofs.Written.{run_unaligned, run_empty, run_low, run_end}
-use borrow.Author.Rules.{rules}
 use Rattle.tables.proofs.write.good_run.Goals as goal
 
 pub returns-then-first-ne0 : goal.returns-then-first-ne0

@@ -2,7 +2,6 @@
 use Rattle.tables.proofs.Answered.{not_refused, few, no_map, no_order, no_leaf, no_run, no_frames, all_judged}
 use mathlib.Core.Path.{ap}
 use mathlib.Core.Bool.{not}
-use borrow.Author.Rules.{rules}
 use Rattle.tables.proofs.write.judge.Goals as goal
 
 pub returns-then-not-good_map : goal.returns-then-not-good_map

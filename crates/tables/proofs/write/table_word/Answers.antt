@@ -1,11 +1,7 @@
 -- `tables::write::table_word` meets its contract. The loop's invariant: the word is that of the directories to come, whose tables stand after
 -- `frame`, and they have room. Assumes nothing.
-use Prim.Native.Nat.{◌≤◌, ◌-◌, ◌+◌, ◌*◌}
-use mathlib.Core.Path.{◌≡◌, refl}
-use mathlib.Core.Logic.{⊎_elim}
-use lib.ListN.{length, drop}
-use Rattle.tables.specs.Tables.{directories_after, directories, table_for, frames_for}
-use Rattle.tables.proofs.Written.{Room, room_whole, room_same, room_new, room_here, table_none, table_here, table_same, table_later}
+use mathlib.Core.Path.{refl}
+use Rattle.tables.proofs.Written.{room_whole, room_same, room_new, room_here, table_none, table_here, table_same, table_later}
 use borrow.Author.Rules.{rules}
 use native.Mathlib.Omega.{arith}
 use Rattle.tables.proofs.write.table_word.Goals as goal
@@ -28,8 +24,7 @@ pub returns-then-directory-wanted : goal.returns-then-directory-wanted
 returns-then-directory-wanted c = search table_here
 
 pub loop-k-preserved : goal.loop-k-preserved
-loop-k-preserved c =
-    (
+loop-k-preserved c = (
   elim c.if-directory-last.branch [ then-directory-last+else-directory-wanted w ↦ search table_later | else-directory-last w ↦ search table_same ],
   elim c.if-directory-last.branch [ then-directory-last+else-directory-wanted w ↦ search room_new | else-directory-last w ↦ search room_same ],
   search rules,

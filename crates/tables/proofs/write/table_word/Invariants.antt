@@ -1,13 +1,10 @@
 -- `tables::write::table_word` meets its contract. The loop's invariant: the word is that of the directories to come, whose tables stand after
 -- `frame`, and they have room. Assumes nothing.
 use Prim.Native.Nat.{◌≤◌, ◌-◌, ◌+◌, ◌*◌}
-use mathlib.Core.Path.{◌≡◌, refl}
-use mathlib.Core.Logic.{⊎_elim}
+use mathlib.Core.Path.{◌≡◌}
 use lib.ListN.{length, drop}
 use Rattle.tables.specs.Tables.{directories_after, directories, table_for, frames_for}
-use Rattle.tables.proofs.Written.{Room, room_whole, room_same, room_new, room_here, table_none, table_here, table_same, table_later}
-use borrow.Author.Rules.{rules}
-use native.Mathlib.Omega.{arith}
+use Rattle.tables.proofs.Written.{Room}
 use Rattle.tables.proofs.write.table_word.Given as goal
 
 abbrev pub invariant-loop-k : goal.invariant-loop-k

@@ -1,10 +1,7 @@
 -- `tables::write::write_level1` meets its contract. The loop's invariant: the words to come make the whole. Assumes nothing.
-use Prim.Native.Nat.{◌≤◌, ◌-◌, ◌+◌, ◌*◌}
+use Prim.Native.Nat.{◌+◌}
 use mathlib.Core.Path.{◌≡◌, refl}
-use lib.ListN.{length}
-use Rattle.memory.specs.Memory.{lent}
-use Rattle.tables.specs.Words.{put_words, words_of}
-use Rattle.tables.specs.Tables.{directories, table_for, level1}
+use Rattle.tables.specs.Tables.{level1}
 use Rattle.tables.proofs.Written.{frames_some, words_begin, words_turn, words_end}
 use borrow.Author.Rules.{rules}
 use native.Mathlib.Omega.{arith}
@@ -15,10 +12,10 @@ unfolding level1
 loop-directory-init c = (words_begin _ _ _ _ _, search rules, refl)
 
 pub overflow_add-first : goal.overflow_add-first
-overflow_add-first c = let s = c in omega (arith, frames_some s.args.vpns.now)
+overflow_add-first c = omega (arith, frames_some c.args.vpns.now)
 
 pub put_word-requires : goal.put_word-requires
-put_word-requires c = let s = c in omega (arith, frames_some s.args.vpns.now)
+put_word-requires c = omega (arith, frames_some c.args.vpns.now)
 
 pub loop-directory-preserved : goal.loop-directory-preserved
 loop-directory-preserved c =

@@ -1,13 +1,10 @@
 -- `tables::write::write_level1` meets its contract. The loop's invariant: the words to come make the whole. Assumes nothing.
 use Prim.Native.Nat.{◌≤◌, ◌-◌, ◌+◌, ◌*◌}
-use mathlib.Core.Path.{◌≡◌, refl}
+use mathlib.Core.Path.{◌≡◌}
 use lib.ListN.{length}
 use Rattle.memory.specs.Memory.{lent}
 use Rattle.tables.specs.Words.{put_words, words_of}
 use Rattle.tables.specs.Tables.{directories, table_for, level1}
-use Rattle.tables.proofs.Written.{frames_some, words_begin, words_turn, words_end}
-use borrow.Author.Rules.{rules}
-use native.Mathlib.Omega.{arith}
 use Rattle.tables.proofs.write.write_level1.Given as goal
 
 abbrev pub invariant-loop-directory : goal.invariant-loop-directory

@@ -1,14 +1,7 @@
 -- `tables::write::write_level2` meets its contract. The loop's invariant: the tables of the directories to come make the whole, and they have
 -- room. Assumes nothing.
-use Prim.Native.Nat.{◌≤◌, ◌-◌, ◌+◌, ◌*◌}
-use mathlib.Core.Path.{◌≡◌, refl}
-use mathlib.Core.Logic.{⊎_elim}
-use lib.ListN.{length, drop}
-use Rattle.memory.specs.Memory.{lent}
-use Rattle.tables.specs.Mapping.{mappings}
-use Rattle.tables.specs.Words.{put_words}
-use Rattle.tables.specs.Tables.{tables_after, frames_for}
-use Rattle.tables.proofs.Written.{Room, room_whole, room_same, room_new, room_here, tables_done, tables_same, tables_new, kept_size}
+use mathlib.Core.Path.{refl}
+use Rattle.tables.proofs.Written.{room_whole, room_same, room_new, room_here, tables_done, tables_same, tables_new, kept_size}
 use borrow.Author.Rules.{rules}
 use native.Mathlib.Omega.{arith}
 use Rattle.tables.proofs.write.write_level2.Goals as goal

@@ -1,13 +1,11 @@
 -- `tables::write::write_table` meets its contract. The loop's invariant: the words to come make the whole. Assumes nothing.
 use Prim.Native.Nat.{◌≤◌, ◌-◌, ◌+◌, ◌*◌}
-use mathlib.Core.Path.{◌≡◌, refl}
+use mathlib.Core.Path.{◌≡◌}
 use lib.ListN.{length, drop}
 use Rattle.memory.specs.Memory.{lent}
 use Rattle.tables.specs.Mapping.{mappings, leaf_at}
 use Rattle.tables.specs.Words.{put_words, words_of}
 use Rattle.tables.specs.Tables.{level2}
-use Rattle.tables.proofs.Written.{words_begin, words_turn, words_end}
-use borrow.Author.Rules.{rules}
 use Rattle.tables.proofs.write.write_table.Given as goal
 
 abbrev pub invariant-loop-i : goal.invariant-loop-i

@@ -1,7 +1,6 @@
 -- `tables::write::write_tables` meets its contract: what is not refused is a good list with room, and level 1 and the tables after it are the
 -- whole image. Assumes nothing.
 use Rattle.tables.proofs.Answered.{nothing_written, list_good, has_room, all_written}
-use borrow.Author.Rules.{rules}
 use Rattle.tables.proofs.write.write_tables.Goals as goal
 
 pub write_level1-requires : goal.write_level1-requires

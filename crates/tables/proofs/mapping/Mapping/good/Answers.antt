@@ -1,6 +1,5 @@
 -- `tables::mapping::Mapping::good` meets its contract: the pages, then the bits; the frame does not matter for the leaf. Assumes nothing.
 use Rattle.tables.proofs.Judged.{page_high, frame_high, by_leaf}
-use borrow.Author.Rules.{rules}
 use Rattle.tables.proofs.mapping.Mapping.good.Goals as goal
 
 pub returns-then-self-ge-PAGES_END : goal.returns-then-self-ge-PAGES_END

@@ -1,6 +1,5 @@
 -- `tables::refusal::Refusal::number` meets its contract, case by case. Assumes nothing.
 use Rattle.tables.specs.Refusal.{refusal_number}
-use borrow.Author.Rules.{rules}
 use Rattle.tables.proofs.refusal.Refusal.number.Goals as goal
 
 pub returns-in-Map : goal.returns-in-Map
