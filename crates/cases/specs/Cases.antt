@@ -5,7 +5,7 @@
 --   Decided m s                       == the regions decide: a user, translation off, over a good map
 --   Holds s n start end flags         == region n of the state is this one
 --   NoOther s n a k                   == no other region than n grants the access
---   IsAllowed, IsDenied m s a n k         == the check's whole answer: the state stays, no table word was read
+--   IsAllowed, IsDenied m s a n k     == the check's whole answer: the state stays, no table word was read
 --   Leads m ptbr va w                 == a walk for va comes to w as its second word
 --   resident va ppn flags             == the entry of va's page
 --   controller pending enable level   == a controller with these words
@@ -99,11 +99,11 @@ pub record Cases : Type 0 where
   pub p4 : cause_of (Syscall 0x1234) ≡ 0x8003_1234
   -- "protection page fault on a write: 0x8006000A"
   pub p5 : (addr : ℕ) → cause_of (PageFault Write true addr) ≡ 0x8006_000A
-  -- "region 0x1000 to 0x2000 for reading: 0x1FFF IsAllowed, 0x2000 not"
+  -- "region 0x1000 to 0x2000 for reading: 0x1FFF allowed, 0x2000 not"
   pub p6 : (m : Memory) (s : SystemState) (n : ℕ) → Decided m s → Holds s n 0x1000 0x2000 1
       → IsAllowed m s 0x1FFF 1 Read × (NoOther s n 0x2000 Read → IsDenied m s 0x2000 1 Read)
-  -- "region 0 to 0xFFFFFFFF, flags 7: 0xFFFEFFFF IsAllowed, 0xFFFF0000 not", whatever the other regions are. A fetch has two bytes at least:
-  -- it is IsAllowed where 0xFFFEFFFF is its last, and not where 0xFFFF0000 is one of them
+  -- "region 0 to 0xFFFFFFFF, flags 7: 0xFFFEFFFF allowed, 0xFFFF0000 not", whatever the other regions are. A fetch has two bytes at least:
+  -- it is allowed where 0xFFFEFFFF is its last, and not where 0xFFFF0000 is one of them
   pub p7 : (m : Memory) (s : SystemState) (n : ℕ) → Decided m s → Holds s n 0 0xFFFF_FFFF 7
       → ((k : Access) → legal_size k 1 ≡ true → IsAllowed m s 0xFFFE_FFFF 1 k × IsDenied m s 0xFFFF_0000 1 k)
       × IsAllowed m s 0xFFFE_FFFE 2 Fetch

@@ -1,3 +1,5 @@
+pub mod Frames
+pub mod Found
 pub mod Judged
 pub mod Written
 pub mod Answered

@@ -29,12 +29,13 @@ use Rattle.tables.specs.declared.refusal.Refusal.TheVariants as refusal
 use Rattle.tables.specs.declared.write.Tables.{Tables}
 use Rattle.tables.specs.declared.write.Tables.TheVariants.{Written, Refused}
 use Rattle.tables.specs.Mapping.{mapping, mappings, leaf_at, only_listed, good_page, good_mapping, all_good, ascending_from, good_list}
-use Rattle.tables.specs.Mapping.Laws.{good_short, good_ppns, good_bits_lem, good_ascending, pages_of_lem, ascending_pairs, pairs_ascending}
+use Rattle.tables.specs.Mapping.Laws.{good_short, good_ppns, good_bits_lem, good_ascending, pages_of, ascending_pairs, pairs_ascending}
 use Rattle.tables.specs.Words.Laws.{put_words_map}
 use Rattle.tables.specs.Tables.{directories_after, directories, table_for, frames_for, good_run, image, answer_for, by_answer, memory_after, Call, list_of, answer_to, after}
 use Rattle.tables.specs.Tables.Laws.{Accepted, accepted, run_aligned, run_covered}
 use Rattle.tables.specs.Found.{made, Listed, entry_of, InFrames, NoEntry, Opens}
-use Rattle.tables.specs.Found.Laws.{answer_ptbr, answer_used, written_memory, listed_good, walk_listed, walk_unlisted, word_of_level1, word_of_table_lem, pages_ascend, directory_word, bytes_outside, bytes_equal, tables_inside, frames_are_tables, list_opens, opened_list}
+use Rattle.tables.specs.Found.Laws.{answer_ptbr, answer_used, written_memory, listed_good, pages_ascend, bytes_outside}
+use Rattle.tables.proofs.Found.{walk_listed, walk_unlisted, word_of_level1, word_of_table_lem, directory_word, bytes_equal, tables_inside, frames_are_tables, list_opens, opened_list}
 use Rattle.tables.specs.Meaning.{InOrder, Wrote, First, Applies, indexes, distinct, Meaning}
 use Rattle.tables.proofs.Counted.{frames_counted}
 
@@ -108,7 +109,7 @@ all_good_lem (x ∷ l) h = rw (h x (inl refl), all_good_lem l (λ y p. h y (inr 
 
 needed : (c : Call) → good_list c.vpns c.ppns c.bits ≡ true → all_good (list_of c) ≡ true → frames_for c.vpns ≡ 1 + distinct (indexes c.vpns)
 needed c g v =
-    let pages = pages_of_lem c.vpns c.ppns c.bits g in
+    let pages = pages_of c.vpns c.ppns c.bits g in
     rw pages at (frames_counted (list_of c) (rw pages (good_ascending c.vpns c.ppns c.bits g)) v)
 
 refused_kept : (c : Call) (r : Refusal) → answer_to c ≡ Refused r → after c ≡ c.memory

@@ -30,9 +30,9 @@ use Rattle.cases.proofs.Regions.{p6_allowed, p6_denied, p7_allowed, p7_denied, p
 use Rattle.cases.proofs.cases.Goals as goal
 
 -- region 7 has its flags back, masked
-flags-back : (s : SystemState) (reg : List ℕ) → Eight s → read_back s reg 0x2E 0xFF ≡ Value 7
+flags_back : (s : SystemState) (reg : List ℕ) → Eight s → read_back s reg 0x2E 0xFF ≡ Value 7
 unfolding sr_read sr_written region_field field_of with_field
-flags-back s reg h = ap (λ (g : Region). Value g.flags) (get_or-set_same s.regions 7 _ no_region (omega arith))
+flags_back s reg h = ap (λ (g : Region). Value g.flags) (get_or-set_same s.regions 7 _ no_region (omega arith))
 
 module _ (m : Memory) (ptbr va : ℕ) where
   write_alone : Leads m ptbr va 0x3005 → walk_of m ptbr va ≡ answered Missing 2
@@ -49,7 +49,7 @@ table =
     record {
       p1 = λ reg. refl;
       p2 = λ s reg. ap (λ (vm : Vm). Value vm.ptbr) (flushed_is (vm_ptbr s.vm 0x1000));
-      p3 = (λ s reg. (refl, λ v. refl), flags-back, λ s reg. (refl, λ v. refl), λ s reg. (refl, λ v. refl), refl);
+      p3 = (λ s reg. (refl, λ v. refl), flags_back, λ s reg. (refl, λ v. refl), λ s reg. (refl, λ v. refl), refl);
       p4 = refl;
       p5 = λ addr. refl;
       p6 = λ m s n d h. (p6_allowed m s d n h, p6_denied m s d n h);

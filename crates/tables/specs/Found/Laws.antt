@@ -1,58 +1,43 @@
--- The laws of what is found in the written tables. Assumes nothing.
+-- The laws of what is found in the written tables. Assumes nothing. Those that rest on the words of level 1 are in proofs/Found.antt.
 --
---   word_of_level1, word_of_level2, word_of_table_lem      == the words of the tables, read back
---   walk_leads              == a walk leads to the page's leaf, and where it has none, to nothing
+--   image_size, in_map      == the image of an accepted call has a word for each place of the needed frames, which lie in the map
 --   ByPage, by_page         == a page is absent from a list, or present
 --   listed_good, listed_once      == what is listed is good, and its page is listed once
---   walk_listed, walk_unlisted    == a walk finds exactly the listed mappings
---   FromList, walk_only     == an entry that a walk finds is one of the list
---   bytes_outside, bytes_equal    == the bytes outside the used frames, and those in them
---   tables_inside, frames_are_tables        == the bytes of the tables are those of the used frames
---   list_opens, opened_list       == what is open to users is what the list opens
+--   FromList                == an entry comes from a list
+--   entry_listed            == a walk that meets a listed page's leaf finds its entry
+--   bytes_outside           == the bytes outside the used frames
+--   pages_ascend, directory_low   == the directories of the list
 --   answer_ptbr, answer_used, written_memory      == what a call that was not refused answered and wrote
-use Rattle.std.specs.Prelude.{ℕ, zero, suc, ◌+◌, ◌-◌, ◌*◌, ◌/◌, ◌%◌, ◌^◌, ◌≤◌, ◌<◌, ◌≡◌, refl, List, [], ◌∷◌, ◌++◌, leb, eqb}
+use Rattle.std.specs.Prelude.{ℕ, ◌+◌, ◌*◌, ◌/◌, ◌^◌, ◌≤◌, ◌<◌, ◌≡◌, refl, List, [], ◌∷◌, ◌++◌, leb, eqb}
 use Rattle.std.proofs.Math.Path.{sym, ap}
-use Rattle.std.proofs.Common.{◌∙◌, inl, inr, ⊎_elim, get_or-append-add, leb-true, eq-eqb, ne_eqb, le-leb}
-use Rattle.std.proofs.Math.Bool.{true, false}
+use Rattle.std.proofs.Common.{◌∙◌, inl, inr, ⊎_elim, leb-true, eq-eqb, ne_eqb, le-leb}
+use Rattle.std.proofs.Math.Bool.{true}
 use Rattle.std.proofs.Math.Decide.{ℕ_discrete}
 use native.Mathlib.Omega.{arith}
-use Rattle.std.proofs.Math.ListN.{length, get_or, length-append, get_or-append}
-use Rattle.common.specs.Bits.{bit_set}
-use Rattle.common.specs.Cases.{absurd_eq, cond_holds, and_left, and_right, lt_or_ge}
+use Rattle.std.proofs.Math.ListN.{length, get_or, length-append}
+use Rattle.common.specs.Cases.{cond_holds, and_left, and_right, lt_or_ge}
 use Rattle.common.specs.Lists.{Each, each_get_d}
-use Rattle.memory.specs.Memory.{byte_at, read_at, word_spots}
+use Rattle.memory.specs.Memory.{byte_at}
 use Rattle.memory.specs.declared.Content.TheVariants.{Value}
-use Rattle.mmu.specs.Walk.{table_ok, word_of_table, walk_leaf, walk_of}
+use Rattle.mmu.specs.Walk.{walk_leaf}
 use Rattle.mmu.specs.declared.tlb.TlbEntry.{TlbEntry}
-use Rattle.mmu.specs.declared.walk.Walked.TheVariants.{Leaf, Missing}
-use Rattle.mmu.specs.declared.walk.WalkAnswer.{WalkAnswer}
-use Rattle.mmu.specs.Check.{page_addr}
-use Rattle.mmu.specs.Exception.{access_bit}
-use Rattle.mmu.specs.Opened.{TableByte, level1, level2, resident, leaf, entry_frame, Opened, opened}
-use Rattle.mmu.specs.declared.exception.Access.{Access}
-use Rattle.mmu.specs.declared.vm.Vm.{Vm}
-use Rattle.mmu.specs.Walk.Laws.{table_followed, none_followed, walk_two, walk_one, leaf_found, no_leaf, entry_of_lem}
-use Rattle.mmu.specs.Check.Laws.{permits_bits}
+use Rattle.mmu.specs.declared.walk.Walked.TheVariants.{Leaf}
+use Rattle.mmu.specs.Walk.Laws.{leaf_found, entry_of_lem}
 use Rattle.tables.specs.declared.mapping.Mapping.{Mapping}
 use Rattle.tables.specs.declared.write.Tables.TheVariants.{Written}
 use Rattle.tables.specs.Mapping.{leaf_of, leaf_at, good_mapping, all_good, ascending_from}
-use Rattle.tables.specs.Mapping.Laws.{pages_in, pages_of_lem, good_ascending, first_good, rest_good, page_low, frame_low, bits_even, bits_small, leaf_accepted}
-use Rattle.tables.specs.Words.Laws.{InMap, words_fit, word_back, words_other, words_same}
+use Rattle.tables.specs.Mapping.Laws.{pages_in, pages_of, good_ascending, first_good, rest_good, page_low, frame_low, bits_even, bits_small, leaf_accepted}
+use Rattle.tables.specs.Words.Laws.{InMap, words_fit, words_other}
 use Rattle.tables.specs.Tables as t
 use Rattle.tables.specs.Tables.{directories, table_for, tables_after, image, frames_for, answer_for, by_answer, memory_after, Call, list_of, answer_to, after}
-use Rattle.tables.specs.Tables.Laws.{Accepted, accepted, run_aligned, some_frame, run_starts, frames_in, frames_low, directories_ascend, directories_small, table_of, table_range, level1_size, level1_at, tables_size, Placed, nowhere, in_table, placed}
-use Rattle.tables.specs.Found.{made, Listed, entry_of, InFrames, NoEntry, Opens, opens}
+use Rattle.tables.specs.Tables.Laws.{Accepted, accepted, run_starts, frames_in, directories_ascend, directories_small, level1_size, tables_size}
+use Rattle.tables.specs.Found.{made, Listed, entry_of, InFrames}
 
 -- ---- every word fits
 
-each_append : (P : ℕ → Type 0) (l t : List ℕ) → Each P l → Each P t → Each P (l ++ t)
+pub each_append : (P : ℕ → Type 0) (l t : List ℕ) → Each P l → Each P t → Each P (l ++ t)
 each_append P [] t h g = g
 each_append P (a ∷ l) t h g = (h.0, each_append P l t h.1 g)
-
-table_fits : (a i : ℕ) (ds : List ℕ) → a + 4096 * length ds + 1 < 2 ^ 32 → table_for a i ds < 2 ^ 32
-unfolding table_for
-table_fits a i [] h = omega arith
-table_fits a i (d ∷ ds) h = cond_holds (λ (w : ℕ). w < 2 ^ 32) (eqb d i) (omega arith) (table_fits (a + 4096) i ds (omega arith))
 
 leaf_fits : (v : ℕ) (l : List Mapping) → all_good l ≡ true → leaf_at v l < 2 ^ 32
 unfolding leaf_at
@@ -65,7 +50,7 @@ level2_fits : (d : ℕ) (l : List Mapping) → all_good l ≡ true → Each (λ 
 unfolding t.level2
 level2_fits d l g = words_fit (λ v. leaf_at v l) (λ v. leaf_fits v l g) (d * 1024) 1024
 
-tables_fit : (last : ℕ) (l : List Mapping) → all_good l ≡ true → Each (λ w. w < 2 ^ 32) (tables_after last l)
+pub tables_fit : (last : ℕ) (l : List Mapping) → all_good l ≡ true → Each (λ w. w < 2 ^ 32) (tables_after last l)
 unfolding tables_after
 tables_fit last [] g = tt
 tables_fit last (x ∷ l) g =
@@ -76,62 +61,16 @@ tables_fit last (x ∷ l) g =
 -- ---- the words of an accepted call, read back
 
 module _ (c : Call) (acc : Accepted c) where
-  image_size : length (image c.first c.vpns (list_of c)) ≡ 1024 * frames_for c.vpns
+  pub image_size : length (image c.first c.vpns (list_of c)) ≡ 1024 * frames_for c.vpns
   unfolding image frames_for
   image_size =
       let a = length-append (t.level1 c.first (directories c.vpns)) (tables_after 1024 (list_of c)) in
       let b = level1_size c.first (directories c.vpns) in
-      let e = rw (pages_of_lem c.vpns c.ppns c.bits acc.list) at (tables_size 1024 (list_of c)) in
+      let e = rw (pages_of c.vpns c.ppns c.bits acc.list) at (tables_size 1024 (list_of c)) in
       omega arith
 
-  image_fits : Each (λ w. w < 2 ^ 32) (image c.first c.vpns (list_of c))
-  unfolding image t.level1 frames_for
-  image_fits =
-      each_append (λ w. w < 2 ^ 32) (t.level1 c.first (directories c.vpns)) (tables_after 1024 (list_of c))
-      (words_fit (λ i. table_for c.first i (directories c.vpns)) (λ i. table_fits c.first i (directories c.vpns) (omega (arith, frames_low c acc))) 0 1024)
-      (tables_fit 1024 (list_of c) acc.leaves)
-
-  in_map : InMap c.memory c.first (length (image c.first c.vpns (list_of c)))
+  pub in_map : InMap c.memory c.first (length (image c.first c.vpns (list_of c)))
   in_map = (run_starts c acc, omega (arith, frames_in c acc, image_size))
-
-  -- word i of level 1
-  pub word_of_level1 : (i : ℕ) → i < 1024 → read_at (made c) (word_spots (word_of_table c.first i)) ≡ Value (table_for c.first i (directories c.vpns))
-  unfolding image frames_for
-  word_of_level1 i h =
-      let at : word_of_table c.first i ≡ c.first + 4 * i = omega (arith, run_aligned c acc) in
-      let size = level1_size c.first (directories c.vpns) in
-      rw at (word_back (image c.first c.vpns (list_of c)) c.memory c.first in_map image_fits i (omega (arith, image_size))
-      ∙ ap Value (get_or-append (t.level1 c.first (directories c.vpns)) (tables_after 1024 (list_of c)) 0 i (omega arith) ∙ level1_at c.first (directories c.vpns) i h))
-
-  -- word i of the level-2 table number j, which the word w names
-  pub word_of_level2 : (j i w : ℕ) → j < length (directories c.vpns) → i < 1024 → w ≡ c.first + 4096 * (j + 1) + 1
-      → read_at (made c) (word_spots (word_of_table w i)) ≡ Value (get_or (tables_after 1024 (list_of c)) (j * 1024 + i) 0)
-  unfolding image frames_for
-  word_of_level2 j i w g h e =
-      let ws = t.level1 c.first (directories c.vpns) in
-      let size = level1_size c.first (directories c.vpns) in
-      let at : word_of_table w i ≡ c.first + 4 * (length ws + (j * 1024 + i)) = omega (arith, run_aligned c acc) in
-      rw at (word_back (image c.first c.vpns (list_of c)) c.memory c.first in_map image_fits (length ws + (j * 1024 + i)) (omega (arith, image_size))
-      ∙ ap Value (get_or-append-add ws (tables_after 1024 (list_of c)) (j * 1024 + i) 0))
-
-  -- a walk leads to the page's leaf, and where there is none, to nothing
-  pub walk_leads : (va : ℕ) → va < 2 ^ 32 → (walk_of (made c) c.first va).walked ≡ (walk_leaf va (Value (leaf_at (va / 4096) (list_of c)))).walked
-  walk_leads va h = by_place (placed c.first 1024 (va / 4096) (list_of c) (λ e. omega arith))
-    where
-      directory : va / 4096 / 1024 ≡ va / 4194304
-      directory = omega arith
-
-      by_place : Placed c.first 1024 (va / 4096) (list_of c) → (walk_of (made c) c.first va).walked ≡ (walk_leaf va (Value (leaf_at (va / 4096) (list_of c)))).walked
-      by_place (nowhere p q) =
-          let word = word_of_level1 (va / 4194304) (omega arith) ∙ ap Value (rw (pages_of_lem c.vpns c.ppns c.bits acc.list, directory) at p) in
-          walk_one (made c) c.first va 0 word none_followed ∙ sym (rw q (no_leaf va))
-      by_place (in_table j g p q) =
-          let w = c.first + 4096 * (j + 1) + 1 in
-          let word = word_of_level1 (va / 4194304) (omega arith) ∙ ap Value (rw (pages_of_lem c.vpns c.ppns c.bits acc.list, directory) at p) in
-          let some = rw (pages_of_lem c.vpns c.ppns c.bits acc.list) at g in
-          ap (λ (x : WalkAnswer). x.walked) (walk_two (made c) c.first va w word (Value (leaf_at (va / 4096) (list_of c)))
-          (table_followed (c.first + 4096 * (j + 1)) (omega (arith, run_aligned c acc)))
-          (word_of_level2 j (va / 4096 % 1024) w some (omega arith) refl ∙ ap Value q))
 
 -- ---- a page in a list
 
@@ -180,40 +119,14 @@ pub data FromList (l : List Mapping) (e : TlbEntry) : Type 0 where
 -- ---- what is found, and where, after an accepted call
 
 module _ (c : Call) (acc : Accepted c) where
-  ascends : ascending_from 0 (pages_in (list_of c)) ≡ true
-  ascends = rw (pages_of_lem c.vpns c.ppns c.bits acc.list) (good_ascending c.vpns c.ppns c.bits acc.list)
+  pub ascends : ascending_from 0 (pages_in (list_of c)) ≡ true
+  ascends = rw (pages_of c.vpns c.ppns c.bits acc.list) (good_ascending c.vpns c.ppns c.bits acc.list)
 
-  entry_listed : (va : ℕ) (x : Mapping) → Listed x (list_of c) → x.vpn ≡ va / 4096 → (walk_leaf va (Value (leaf_of x))).walked ≡ Leaf (entry_of x)
+  pub entry_listed : (va : ℕ) (x : Mapping) → Listed x (list_of c) → x.vpn ≡ va / 4096 → (walk_leaf va (Value (leaf_of x))).walked ≡ Leaf (entry_of x)
   entry_listed va x h e =
       let g = listed_good x (list_of c) acc.leaves h in
       leaf_found va (leaf_of x) (leaf_accepted x g)
       ∙ ap Leaf (entry_of_lem va x.ppn x.bits (frame_low x g) (bits_even x g) (bits_small x g) ∙ rw (← e))
-
-  pub walk_listed : (va : ℕ) → va < 2 ^ 32 → (x : Mapping) → Listed x (list_of c) → x.vpn ≡ va / 4096
-      → (walk_of (made c) c.first va).walked ≡ Leaf (entry_of x)
-  walk_listed va h x l e = walk_leads c acc va h ∙ by_leaf (by_page (va / 4096) (list_of c))
-    where
-      by_leaf : ByPage (va / 4096) (list_of c) → (walk_leaf va (Value (leaf_at (va / 4096) (list_of c)))).walked ≡ Leaf (entry_of x)
-      by_leaf (absent f q) = absurd (f x l e)
-      by_leaf (present y k g q) =
-          let same : y ≡ x = listed_once 0 y x (list_of c) ascends k l (g ∙ sym e) in
-          rw (q, same) (entry_listed va x l e)
-
-  pub walk_unlisted : (va : ℕ) → va < 2 ^ 32 → ((x : Mapping) → Listed x (list_of c) → x.vpn ≡ va / 4096 → ⊥)
-      → (walk_of (made c) c.first va).walked ≡ Missing
-  walk_unlisted va h f = walk_leads c acc va h ∙ by_leaf (by_page (va / 4096) (list_of c))
-    where
-      by_leaf : ByPage (va / 4096) (list_of c) → (walk_leaf va (Value (leaf_at (va / 4096) (list_of c)))).walked ≡ Missing
-      by_leaf (absent g q) = rw q (no_leaf va)
-      by_leaf (present y k g q) = absurd (f y k g)
-
-  pub walk_only : (va : ℕ) → va < 2 ^ 32 → (e : TlbEntry) → (walk_of (made c) c.first va).walked ≡ Leaf e
-      → FromList (list_of c) e
-  walk_only va h e p = by_leaf (by_page (va / 4096) (list_of c))
-    where
-      by_leaf : ByPage (va / 4096) (list_of c) → FromList (list_of c) e
-      by_leaf (absent g q) = let z : Leaf e ≡ Missing = sym p ∙ walk_unlisted va h g in absurd_eq (cc)
-      by_leaf (present y k g q) = let z : Leaf e ≡ Leaf (entry_of y) = sym p ∙ walk_listed va h y k g in from_list y k (cc)
 
   -- ---- the bytes
 
@@ -224,15 +137,6 @@ module _ (c : Call) (acc : Accepted c) where
       (λ h. ⊎_elim (λ (k : a < c.first + 4096 * frames_for c.vpns). absurd (out (h, k))) (λ k. inr (omega (arith, image_size c acc))) (lt_or_ge a (c.first + 4096 * frames_for c.vpns)))
       (lt_or_ge a c.first))
 
-  pub bytes_equal : (d : Call) → Accepted d → c.vpns ≡ d.vpns → c.ppns ≡ d.ppns → c.bits ≡ d.bits → c.first ≡ d.first
-      → (a : ℕ) → InFrames c.first (frames_for c.vpns) a → byte_at (made c) a ≡ byte_at (made d) a
-  bytes_equal d acc' p q r s a h =
-      let same : image d.first d.vpns (list_of d) ≡ image c.first c.vpns (list_of c) = rw (p, q, r, s) refl in
-      let in-d = rw (same, ← s) at (in_map d acc') in
-      rw (same, ← s)
-      (words_same (image c.first c.vpns (list_of c)) c.memory d.memory c.first (in_map c acc) in-d
-      (image_fits c acc) a h.0 (omega (arith, image_size c acc)))
-
   -- ---- the bytes of the tables are those of the used frames
 
   pages_small : (l : List Mapping) → all_good l ≡ true → Each (λ v. v < 2 ^ 20) (pages_in l)
@@ -240,102 +144,14 @@ module _ (c : Call) (acc : Accepted c) where
   pages_small (x ∷ l) g = (let low = page_low x (first_good x l g) in omega arith, pages_small l (rest_good x l g))
 
   small_pages : Each (λ v. v < 2 ^ 20) c.vpns
-  small_pages = rw (pages_of_lem c.vpns c.ppns c.bits acc.list) at (pages_small (list_of c) acc.leaves)
-
-  -- a word that the walk follows names a frame after the c.first
-  named : (a w : ℕ) → a / 4096 ≡ w / 4096 → table_ok w ≡ true → (i : ℕ) → table_for c.first i (directories c.vpns) ≡ w → InFrames c.first (frames_for c.vpns) a
-  unfolding frames_for
-  named a w e t i p =
-      table_range (λ (y : ℕ). y ≡ w → InFrames c.first (frames_for c.vpns) a) c.first i (directories c.vpns)
-      (λ z. let f : true ≡ false = sym t ∙ rw (← z) none_followed in absurd_eq (cc))
-      (λ j h q. (omega (arith, run_aligned c acc), omega (arith, run_aligned c acc)))
-      p
-
-  pub tables_inside : (a : ℕ) → TableByte (made c) c.first a → InFrames c.first (frames_for c.vpns) a
-  tables_inside a (level1 e) = (omega (arith, run_aligned c acc), omega (arith, run_aligned c acc, some_frame c acc))
-  tables_inside a (level2 i w h p t e) =
-      let q : Value (table_for c.first i (directories c.vpns)) ≡ Value w = sym (word_of_level1 c acc i h) ∙ p in
-      named a w e t i (cc)
+  small_pages = rw (pages_of c.vpns c.ppns c.bits acc.list) at (pages_small (list_of c) acc.leaves)
 
   pub pages_ascend : ascending_from 0 (directories c.vpns) ≡ true
   pages_ascend = directories_ascend 0 c.vpns (good_ascending c.vpns c.ppns c.bits acc.list) small_pages
 
   -- the directory of table number j
-  directory_low : (j : ℕ) → j < length (directories c.vpns) → get_or (directories c.vpns) j 0 < 1024
+  pub directory_low : (j : ℕ) → j < length (directories c.vpns) → get_or (directories c.vpns) j 0 < 1024
   directory_low j h = each_get_d (λ y. y < 1024) (directories c.vpns) (directories_small 1024 c.vpns small_pages) j h
-
-  pub directory_word : (j : ℕ) → j < length (directories c.vpns) → table_for c.first (get_or (directories c.vpns) j 0) (directories c.vpns) ≡ c.first + 4096 * (j + 1) + 1
-  directory_word j h = table_of c.first 0 (directories c.vpns) pages_ascend j h
-
-  -- the frame of table number j
-  table_frame : (j a : ℕ) → j + 1 < frames_for c.vpns → a / 4096 ≡ c.first / 4096 + (j + 1) → TableByte (made c) c.first a
-  unfolding frames_for
-  table_frame j a h e =
-      let d = get_or (directories c.vpns) j 0 in
-      let some : j < length (directories c.vpns) = omega arith in
-      let low = directory_low j some in
-      let word = directory_word j some in
-      level2 d (c.first + 4096 * (j + 1) + 1) low (word_of_level1 c acc d low ∙ ap Value word)
-      (table_followed (c.first + 4096 * (j + 1)) (omega (arith, run_aligned c acc))) (omega (arith, run_aligned c acc))
-
-  pub frames_are_tables : (a : ℕ) → InFrames c.first (frames_for c.vpns) a → TableByte (made c) c.first a
-  frames_are_tables a h = by_frame (a / 4096 - c.first / 4096) (omega (arith, run_aligned c acc)) (omega (arith, run_aligned c acc))
-    where
-      by_frame : (k : ℕ) → a / 4096 ≡ c.first / 4096 + k → k < frames_for c.vpns → TableByte (made c) c.first a
-      by_frame zero e g = level1 (omega arith)
-      by_frame (suc j) e g = table_frame j a (omega arith) (omega arith)
-
-  -- word i of the table number j
-  pub word_of_table_lem : (j i : ℕ) → j < length (directories c.vpns) → i < 1024
-      → read_at (made c) (word_spots (c.first + 4096 * (j + 1) + 4 * i)) ≡ Value (leaf_at (get_or (directories c.vpns) j 0 * 1024 + i) (list_of c))
-  word_of_table_lem j i h g = by_place (placed c.first 1024 v (list_of c) (λ e. omega (arith, directory_low j h)))
-    where
-      v : ℕ
-      v = get_or (directories c.vpns) j 0 * 1024 + i
-
-      own_directory : (get_or (directories c.vpns) j 0 * 1024 + i) / 1024 ≡ get_or (directories c.vpns) j 0
-      own_directory = omega arith
-
-      low : (get_or (directories c.vpns) j 0 * 1024 + i) % 1024 ≡ i
-      low = omega arith
-
-      at : word_of_table (c.first + 4096 * (j + 1) + 1) i ≡ c.first + 4096 * (j + 1) + 4 * i
-      at = omega (arith, run_aligned c acc)
-
-      by_place : Placed c.first 1024 v (list_of c) → read_at (made c) (word_spots (c.first + 4096 * (j + 1) + 4 * i)) ≡ Value (leaf_at v (list_of c))
-      by_place (nowhere p q) =
-          let own = directory_word j h in
-          let none = rw (pages_of_lem c.vpns c.ppns c.bits acc.list, own_directory) at p in
-          absurd (omega arith)
-      by_place (in_table k l p q) =
-          let own = directory_word j h in
-          let named = rw (pages_of_lem c.vpns c.ppns c.bits acc.list, own_directory) at p in
-          let same : k ≡ j = omega arith in
-          rw (← at) (word_of_level2 c acc j i (c.first + 4096 * (j + 1) + 1) h g refl ∙ ap Value (rw (same, low) at q))
-
-  -- ---- what is open to users: exactly what the list opens
-
-  -- no entry of the TLB is valid
-  pub list_opens : (vm : Vm) → vm.ptbr ≡ c.first → NoEntry vm → (k : Access) (a : ℕ) → Opened (made c) vm k a → Opens (list_of c) k a
-  list_opens vm e none k a (opened x (resident i h p v) low t f) = let z : true ≡ false = sym v ∙ ap (λ (y : TlbEntry). y.valid) (sym p) ∙ none i in absurd_eq (cc)
-  list_opens vm e none k a (opened x (leaf va h w) low t f) = by_entry (walk_only va h x (rw e at w))
-    where
-      by_entry : FromList (list_of c) x → Opens (list_of c) k a
-      by_entry (from_list y l q) =
-          let g = frame_low y (listed_good y (list_of c) acc.leaves l) in
-          let bits = sym (permits_bits (entry_of y) k g) ∙ (rw q at t) in
-          let frame : page_addr y.ppn / 4096 ≡ y.ppn = omega arith in
-          opens y l (and_left (bit_set y.bits 4) (bit_set y.bits (access_bit k)) bits) (and_right (bit_set y.bits 4) (bit_set y.bits (access_bit k)) bits)
-          (f ∙ ap entry_frame q ∙ frame)
-
-  pub opened_list : (vm : Vm) → vm.ptbr ≡ c.first → (k : Access) (a : ℕ) → Opens (list_of c) k a → Opened (made c) vm k a
-  opened_list vm e k a (opens x l u b f) =
-      let g = listed_good x (list_of c) acc.leaves l in
-      let low = page_low x g in
-      let here : x.vpn ≡ x.vpn * 4096 / 4096 = omega arith in
-      let frame : x.ppn ≡ page_addr x.ppn / 4096 = let p = frame_low x g in omega arith in
-      opened (entry_of x) (leaf (x.vpn * 4096) (omega arith) (rw e (walk_listed (x.vpn * 4096) (omega arith) x l here))) low
-      (permits_bits (entry_of x) k (frame_low x g) ∙ rw (u, b)) (f ∙ frame)
 
 -- ---- the same of a call that wrote
 

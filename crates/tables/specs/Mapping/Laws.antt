@@ -2,7 +2,7 @@
 --
 --   good-lengths, good_short, good_ascending      == what a good list is
 --   mapping_next       == the list from place k on starts with the mapping at k
---   pages_of_lem           == the pages of the mappings are the list of pages
+--   pages_of           == the pages of the mappings are the list of pages
 --   page_low, frame_low, bits-listed, leaf_accepted      == what a good mapping is
 --   ascending_at, ascending_pairs, pairs_ascending      == ascending, by the places in the list
 --   leaf_above         == a list of higher pages has no leaf for a page
@@ -71,14 +71,14 @@ module _ (vs ps bs : List ℕ) (g : good_list vs ps bs ≡ true) where
       → drop k (mappings vs ps bs) ≡ mapping (get_or vs k 0) (get_or ps k 0) (get_or bs k 0) ∷ drop (k + 1) (mappings vs ps bs)
   mapping_next k h = rw add-one (next vs ps bs (good_ppns vs ps bs g) (good_bits_lem vs ps bs g) k h)
 
-  pub pages_of_lem : pages_in (mappings vs ps bs) ≡ vs
-  pages_of_lem = pages vs ps bs (good_ppns vs ps bs g) (good_bits_lem vs ps bs g)
+  pub pages_of : pages_in (mappings vs ps bs) ≡ vs
+  pages_of = pages vs ps bs (good_ppns vs ps bs g) (good_bits_lem vs ps bs g)
 
   pub pages_from : (k : ℕ) → pages_in (drop k (mappings vs ps bs)) ≡ drop k vs
-  pages_from k = map_drop k (mappings vs ps bs) ∙ ap (drop k) pages_of_lem
+  pages_from k = map_drop k (mappings vs ps bs) ∙ ap (drop k) pages_of
 
   pub mappings_length : length (mappings vs ps bs) ≡ length vs
-  mappings_length = sym (length-map (mappings vs ps bs) (λ (x : Mapping). x.vpn)) ∙ ap length pages_of_lem
+  mappings_length = sym (length-map (mappings vs ps bs) (λ (x : Mapping). x.vpn)) ∙ ap length pages_of
 
   pub none_left : (k : ℕ) → length vs ≤ k → drop k (mappings vs ps bs) ≡ []
   none_left k h = drop_of_length-le (mappings vs ps bs) {i = k} (rw mappings_length h)

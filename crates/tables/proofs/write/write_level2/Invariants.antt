@@ -1,0 +1,23 @@
+-- `tables::write::write_level2` meets its contract. The loop's invariant: the tables of the directories to come make the whole, and they have
+-- room. Assumes nothing.
+use Prim.Native.Nat.{◌≤◌, ◌-◌, ◌+◌, ◌*◌}
+use mathlib.Core.Path.{◌≡◌}
+use lib.ListN.{length, drop}
+use Rattle.memory.specs.Memory.{lent}
+use Rattle.tables.specs.Mapping.{mappings}
+use Rattle.tables.specs.Words.{put_words}
+use Rattle.tables.specs.Tables.{tables_after, frames_for}
+use Rattle.tables.proofs.Written.{Room}
+use Rattle.tables.proofs.write.write_level2.Given as goal
+
+abbrev pub invariant-loop-k : goal.invariant-loop-k
+invariant-loop-k l =
+    ((put_words (lent l.base l.initial.mem) (l.first + 4096) (tables_after 1024 (mappings l.vpns l.ppns l.bits))).bytes
+    ≡ (put_words (lent l.base l.mem) (l.frame + 4096) (tables_after l.last (drop l.k (mappings l.vpns l.ppns l.bits)))).bytes)
+    × Room (l.first + 4096 * frames_for l.vpns) l.frame l.last l.k l.vpns
+    × (l.k ≤ length l.vpns)
+    × (length l.mem ≡ length l.initial.mem)
+
+abbrev pub decreases-loop-k : goal.decreases-loop-k
+decreases-loop-k l =
+    length l.vpns - l.k
