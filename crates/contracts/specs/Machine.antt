@@ -12,9 +12,10 @@ pub record Machine : Type 0 where
   pub fetch : Settled machine.state.Machine.fetch.ended (λ κs a r e. Claim ((machine.state.Machine.fetch.clauses 𝓛 mem run κs a).ensures tt r e) (r_last _))
   pub store : Settled machine.state.Machine.store.ended (λ κs a r e. Claim ((machine.state.Machine.store.clauses 𝓛 mem run κs a).ensures tt r e) (r_last _))
   pub step : Settled machine.state.Machine.step.ended (λ κs a r e. Claim ((machine.state.Machine.step.clauses 𝓛 mem run κs a).ensures tt r e) (r_last _))
-  pub run : Settled machine.state.Machine.run.ended (λ κs a r e. Claim ((machine.state.Machine.run.clauses 𝓛 mem run κs a).ensures tt r e) (r_join _ _ (r_last _) (r_join _ _ (r_last _) (r_join _ _ (r_last _) (r_last _)))))
   pub list : Settled machine.run.list.ended (λ κs a r e. Claim ((machine.run.list.clauses 𝓛 mem run κs a).ensures tt r e) (r_last _))
   pub list_whole : Settled machine.run.list_whole.ended (λ κs a r e. Claim ((machine.run.list_whole.clauses 𝓛 mem run κs a).ensures tt r e) (r_join _ _ (r_last _) (r_last _)))
+  -- the last one, since its name is also that of the closed model's part which the others read
+  pub run : Settled machine.state.Machine.run.ended (λ κs a r e. Claim ((machine.state.Machine.run.clauses 𝓛 mem run κs a).ensures tt r e) (r_join _ _ (r_last _) (r_join _ _ (r_last _) (r_join _ _ (r_last _) (r_last _)))))
 
 -- where the machine's words stand
 pub record MachineFlat : Type 0 where
