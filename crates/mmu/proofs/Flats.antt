@@ -301,8 +301,8 @@ pub ruleset grantings = (grant_reserved, grant_resident, grant_denied, grant_wal
 -- ---- the page loop
 
 -- an access that stays in its page has that page as its last
-one_page_lem : (addr size : ℕ) → addr < 2 ^ 32 → addr % 4096 + size ≤ 4096 → 0 < size → addr / 4096 ≡ last_page addr size
-one_page_lem addr size h l g =
+one_page : (addr size : ℕ) → addr < 2 ^ 32 → addr % 4096 + size ≤ 4096 → 0 < size → addr / 4096 ≡ last_page addr size
+one_page addr size h l g =
     let less : (size + (2 ^ 32 - 1)) % 2 ^ 32 ≡ size - 1 = omega arith in
     rw less (omega arith)
 
@@ -322,7 +322,7 @@ module _ (m : Memory) (k : Access) (addr size : ℕ) (v₀ v v' : Vm) (page va n
     words_last y small here e q =
         let there : frame_of v' (page_addr (last_page addr size)) ≡ x.ppn = frame_same v' _ va (omega arith) ∙ is.1 a in (
           each_last m k addr size v₀ v page va n p (pages_as x v') is.0 last end a h _ e (ap (λ (z : Pages). pages_as z v') q),
-          (λ ok one some. rw q (frame_same v' addr va (one_page_lem addr size small one some ∙ sym (here ∙ e ∙ end)) ∙ is.1 a)),
+          (λ ok one some. rw q (frame_same v' addr va (one_page addr size small one some ∙ sym (here ∙ e ∙ end)) ∙ is.1 a)),
           rw q (sym there),
         )
 

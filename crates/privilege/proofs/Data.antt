@@ -21,12 +21,12 @@ use Rattle.privilege.specs.declared.transfer.DataWritten.TheVariants as stored
 
 -- ---- where the bytes are
 
-pub looked_up_lem : (s : SystemState) (va n i : ℕ) → va < 2 ^ 32 → i < n → get_or (spots s va n) i 0 ≡ physical_of s ((va + i) % 2 ^ 32)
-looked_up_lem s va zero i h g = absurd (omega arith)
-looked_up_lem s va (suc n) zero h g = let e : va ≡ (va + 0) % 2 ^ 32 = omega arith in rw (spots_next s va n) (ap (physical_of s) e)
-looked_up_lem s va (suc n) (suc i) h g =
+pub looked_up : (s : SystemState) (va n i : ℕ) → va < 2 ^ 32 → i < n → get_or (spots s va n) i 0 ≡ physical_of s ((va + i) % 2 ^ 32)
+looked_up s va zero i h g = absurd (omega arith)
+looked_up s va (suc n) zero h g = let e : va ≡ (va + 0) % 2 ^ 32 = omega arith in rw (spots_next s va n) (ap (physical_of s) e)
+looked_up s va (suc n) (suc i) h g =
     let e : ((va + 1) % 2 ^ 32 + i) % 2 ^ 32 ≡ (va + suc i) % 2 ^ 32 = omega arith in
-    rw (spots_next s va n) (looked_up_lem s ((va + 1) % 2 ^ 32) n i (omega arith) (omega arith) ∙ ap (physical_of s) e)
+    rw (spots_next s va n) (looked_up s ((va + 1) % 2 ^ 32) n i (omega arith) (omega arith) ∙ ap (physical_of s) e)
 
 pub stolen : (s : SystemState) (va : ℕ) → translating_of s ≡ true → slot_of s.vm va ≡ Nothing → physical_of s va ≡ va % 4096
 unfolding frame_of

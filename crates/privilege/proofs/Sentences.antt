@@ -29,7 +29,7 @@ use Rattle.privilege.specs.declared.state.InstructionMode.{InstructionMode}
 use Rattle.privilege.specs.declared.state.SystemState.{SystemState}
 use Rattle.privilege.specs.declared.trap.Returned.{Returned}
 use Rattle.privilege.specs.declared.trap.Trapped.{Trapped}
-use Rattle.privilege.proofs.Data.{looked_up_lem, stolen, big_endian_lem, load_outside, store_outside, store_puts, debug_mode, debug_resident, view_index}
+use Rattle.privilege.proofs.Data.{looked_up, stolen, big_endian_lem, load_outside, store_outside, store_puts, debug_mode, debug_resident, view_index}
 use Rattle.privilege.proofs.Listed.{unknown_read, unknown_written, known_read, known_written, user_read_lem, user_written_lem, region_read_lem, region_written_lem}
 
 -- ---- STATUS
@@ -269,7 +269,7 @@ meaning_holds =
       check_supervisor = λ m s a n k h g u. check_good m s a n k (opened m k n h g) ∙ by_supervisor m s a n k u;
       check_regions = λ m s a n k h g u t. check_good m s a n k (opened m k n h g) ∙ by_regions_lem m s a n k (is_off s a n k t);
       check_pages = λ m s a n k h g u t. check_good m s a n k (opened m k n h g) ∙ by_pages m s a n k (is_on s a n k u t);
-      looked_up_lem = looked_up_lem;
+      looked_up = looked_up;
       stolen = stolen;
       big_endian_lem = big_endian_lem;
       load_outside = λ m n l i good size h e. load_outside m n good size l i h e;

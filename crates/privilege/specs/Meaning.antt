@@ -186,10 +186,10 @@ pub record Meaning : Type 0 where
   pub check_pages : (m : Memory) (s : SystemState) (a n : ℕ) (k : Access) → map_good m ≡ true → legal_size k n ≡ true → s.user ≡ true → s.vm.enabled ≡ true →
       check_access m s a n k ≡ from_pages s (check_each m k s.vm (pages_of a n))
   -- ---- data: a load or store "finds each byte by looking up the TLB again"
-  pub looked_up_lem : (s : SystemState) (va n i : ℕ) → va < 2 ^ 32 → i < n → slice_index (spots s va n) i ≡ physical_of s ((va + i) % 2 ^ 32)
+  pub looked_up : (s : SystemState) (va n i : ℕ) → va < 2 ^ 32 → i < n → slice_index (spots s va n) i ≡ physical_of s ((va + i) % 2 ^ 32)
   -- "If the second page's fill took the first page's slot, the Rust uses physical page 0; so does the port"
   pub stolen : (s : SystemState) (va : ℕ) → translating_of s ≡ true → slot_of s.vm va ≡ Nothing → physical_of s va ≡ va % 4096
-  -- "Memory is big_endian_lem"
+  -- "Memory is big-endian"
   pub big_endian_lem : (m : Memory) (p₀ p₁ p₂ p₃ b₀ b₁ b₂ b₃ : ℕ) → map_good m ≡ true →
       byte_at m p₀ ≡ Value b₀ → byte_at m p₁ ≡ Value b₁ → byte_at m p₂ ≡ Value b₂ → byte_at m p₃ ≡ Value b₃ →
       load_at m 4 (p₀ ∷ p₁ ∷ p₂ ∷ p₃ ∷ []) ≡ loaded.Value (big_endian (b₀ ∷ b₁ ∷ b₂ ∷ b₃ ∷ []))

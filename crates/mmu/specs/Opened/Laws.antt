@@ -240,16 +240,16 @@ each_same m m' k vm same (va ∷ l) s vm' r =
     (ap (after_page page.verdict page) (each_same m m' k vm same l s.1 page.vm (refilled_page m vm vm' r k va s.0)))
 
 -- one page: where it is allowed, the check of a list of one leaves what the page's check does
-one_page_lem : (v : Verdict) (page rest : Checked) → page.verdict ≡ v → rest.vm ≡ page.vm → (after_page v page rest).verdict ≡ Allowed
+one_page : (v : Verdict) (page rest : Checked) → page.verdict ≡ v → rest.vm ≡ page.vm → (after_page v page rest).verdict ≡ Allowed
     → (v ≡ Allowed) × ((after_page v page rest).vm ≡ page.vm)
 unfolding after_page
-one_page_lem Allowed page rest h e q = (refl, e)
-one_page_lem (Denied x) page rest h e q = absurd_eq (cc)
+one_page Allowed page rest h e q = (refl, e)
+one_page (Denied x) page rest h e q = absurd_eq (cc)
 
 pub each_one : (m : Memory) (k : Access) (vm : Vm) (va : ℕ) → (check_each m k vm (va ∷ [])).verdict ≡ Allowed
     → ((check_page m vm k va).verdict ≡ Allowed) × ((check_each m k vm (va ∷ [])).vm ≡ (check_page m vm k va).vm)
 unfolding check_each
-each_one m k vm va p = one_page_lem (check_page m vm k va).verdict (check_page m vm k va) _ refl refl p
+each_one m k vm va p = one_page (check_page m vm k va).verdict (check_page m vm k va) _ refl refl p
 
 -- ---- which pages an access has
 
