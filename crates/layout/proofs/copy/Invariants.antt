@@ -1,10 +1,8 @@
 -- `layout::copy` meets its contract. The loop's invariant: the first i words are those of `from`. Assumes nothing.
 use Prim.Native.Nat.{◌-◌, ◌≤◌}
 use mathlib.Core.Path.{◌≡◌}
-use borrow.Author.Rules.{rules}
 use lib.ListN.{length}
 use Rattle.common.specs.Lists.{over_to}
-use Rattle.layout.proofs.Copies.{copies}
 use Rattle.layout.proofs.copy.Given as goal
 
 abbrev pub invariant-loop-i : goal.invariant-loop-i
