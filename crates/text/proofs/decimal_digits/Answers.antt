@@ -1,10 +1,7 @@
 -- `text::decimal_digits` meets its contract. The loop's invariant: the digits that stand, with those of `rest` still to come before
 -- them, are the whole number's. Assumes nothing.
-use Prim.Native.Nat.{◌≤◌}
-use mathlib.Core.Path.{◌≡◌, refl}
+use mathlib.Core.Path.{refl}
 use borrow.Author.Rules.{rules}
-use lib.ListN.{length, drop}
-use Rattle.text.specs.Text.{decimal_of, decimal_before}
 use Rattle.text.specs.Text.Laws.{decimal_next, decimal_last, decimal_full}
 use Rattle.text.proofs.decimal_digits.Goals as goal
 

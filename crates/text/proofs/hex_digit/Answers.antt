@@ -2,7 +2,6 @@
 use borrow.Author.Tests.{lt-ltb, le-ltb}
 use Rattle.text.specs.Text.{hex_digit}
 use Rattle.text.specs.Text.Laws.{hex_high}
-use borrow.Author.Rules.{rules}
 use Rattle.text.proofs.hex_digit.Goals as goal
 
 pub returns-then-k-ge8 : goal.returns-then-k-ge8

@@ -1,7 +1,6 @@
 -- `text::put_byte` meets its contract: there is room for the byte, or there is none. Assumes nothing.
 use borrow.Author.Tests.{lt-ltb, le-ltb}
 use Rattle.text.specs.Text.{put, written}
-use borrow.Author.Rules.{rules}
 use Rattle.text.proofs.put_byte.Goals as goal
 
 pub returns-then-at-out : goal.returns-then-at-out

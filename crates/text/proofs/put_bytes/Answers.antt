@@ -1,10 +1,6 @@
 -- `text::put_bytes` meets its contract. The loop's invariant: the whole text written is what is left of it written from here.
 -- Assumes nothing.
-use Prim.Native.Nat.{◌≤◌, ◌-◌}
-use mathlib.Core.Path.{◌≡◌}
 use borrow.Author.Rules.{rules}
-use lib.ListN.{length, drop}
-use Rattle.text.specs.Text.{written}
 use Rattle.text.specs.Text.Laws.{written_next, written_done, same_room}
 use Rattle.text.proofs.put_bytes.Goals as goal
 

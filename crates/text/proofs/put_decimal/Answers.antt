@@ -1,6 +1,5 @@
 -- `text::put_decimal` meets its contract: the digits from `first` on are the number's. Assumes nothing.
 use Rattle.text.specs.Text.Laws.{rest_written}
-use borrow.Author.Rules.{rules}
 use Rattle.text.proofs.put_decimal.Goals as goal
 
 pub returns : goal.returns

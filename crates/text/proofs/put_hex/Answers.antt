@@ -1,9 +1,5 @@
 -- `text::put_hex` meets its contract. The loop's invariant: all digits written are the k that are left written from here.
 -- Assumes nothing.
-use mathlib.Core.Path.{◌≡◌}
-use borrow.Author.Rules.{rules}
-use lib.ListN.{length}
-use Rattle.text.specs.Text.{written, hex_of}
 use Rattle.text.specs.Text.Laws.{hex_next, hex_done, same_room}
 use Rattle.text.proofs.put_hex.Goals as goal
 
