@@ -1,9 +1,5 @@
 -- `digest::fnv_words` meets its contract. The loop's invariant: the digest of the whole is that of what is left, from here.
 -- Assumes nothing.
-use Prim.Native.Nat.{◌≤◌, ◌-◌}
-use mathlib.Core.Path.{◌≡◌}
-use lib.ListN.{length, drop}
-use Rattle.digest.specs.Digest.{fnv_words}
 use Rattle.digest.proofs.Steps.{words_next, words_done}
 use borrow.Author.Rules.{rules}
 use Rattle.digest.proofs.fnv_words.Goals as goal

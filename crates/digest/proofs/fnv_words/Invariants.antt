@@ -4,8 +4,6 @@ use Prim.Native.Nat.{◌≤◌, ◌-◌}
 use mathlib.Core.Path.{◌≡◌}
 use lib.ListN.{length, drop}
 use Rattle.digest.specs.Digest.{fnv_words}
-use Rattle.digest.proofs.Steps.{words_next, words_done}
-use borrow.Author.Rules.{rules}
 use Rattle.digest.proofs.fnv_words.Given as goal
 
 abbrev pub invariant-loop-k : goal.invariant-loop-k
