@@ -1,6 +1,5 @@
 -- `memory::good_range` meets its contract: each test is one of the definition's, and a length over the limit fails the sum. Assumes nothing.
 use Rattle.memory.proofs.Places.{map_base, map_length, map_long, map_end}
-use borrow.Author.Rules.{rules}
 use Rattle.memory.proofs.good_range.Goals as goal
 
 pub returns-then-base-ne0 : goal.returns-then-base-ne0

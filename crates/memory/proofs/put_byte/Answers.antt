@@ -1,6 +1,5 @@
 -- `memory::put_byte` meets its contract: the address is below the map, in it or above it. Assumes nothing.
 use Rattle.memory.proofs.Places.{put_below, put_inside, put_above}
-use borrow.Author.Rules.{rules}
 use Rattle.memory.proofs.put_byte.Goals as goal
 
 pub returns-then-addr-base : goal.returns-then-addr-base

@@ -2,7 +2,6 @@
 use Prim.Native.Nat.{◌-◌}
 use native.Mathlib.Omega.{arith}
 use Rattle.memory.proofs.Places.{byte_below, byte_inside, byte_above}
-use borrow.Author.Rules.{rules}
 use Rattle.memory.proofs.read_byte.Goals as goal
 
 pub returns-then-addr-base : goal.returns-then-addr-base

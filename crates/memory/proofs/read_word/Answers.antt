@@ -1,6 +1,5 @@
 -- `memory::read_word` meets its contract: the word begins below the map, lies in it, or ends above it. Assumes nothing.
 use Rattle.memory.proofs.Places.{word_below, word_inside, word_above}
-use borrow.Author.Rules.{rules}
 use Rattle.memory.proofs.read_word.Goals as goal
 
 pub returns-then-addr-base : goal.returns-then-addr-base

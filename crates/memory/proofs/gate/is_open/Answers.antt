@@ -1,5 +1,4 @@
 -- `memory::gate::is_open` meets its contract: the map is tested, then the size. Assumes nothing.
-use borrow.Author.Rules.{rules}
 use Rattle.memory.proofs.Gates.{by_size, by_map}
 use Rattle.memory.proofs.gate.is_open.Goals as goal
 

@@ -1,5 +1,4 @@
 -- `memory::gate::refusal` meets its contract: a good map is refused for its size alone. Assumes nothing.
-use borrow.Author.Rules.{rules}
 use Rattle.memory.proofs.Gates.{size_given, map_given}
 use Rattle.memory.proofs.gate.refusal.Goals as goal
 

@@ -1,6 +1,5 @@
 -- `memory::span::put_spot` meets its contract: the address is below the map, in it or above it. Assumes nothing.
 use Rattle.memory.proofs.Spans.{spots}
-use borrow.Author.Rules.{rules}
 use Rattle.memory.proofs.span.put_spot.Goals as goal
 
 pub returns-then-addr-first : goal.returns-then-addr-first

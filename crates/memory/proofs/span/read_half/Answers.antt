@@ -1,6 +1,5 @@
 -- `memory::span::read_half` meets its contract: the half begins below the map, lies in it, or ends above it. Assumes nothing.
 use Rattle.memory.proofs.Spans.{halves}
-use borrow.Author.Rules.{rules}
 use Rattle.memory.proofs.span.read_half.Goals as goal
 
 pub returns-then-addr-base : goal.returns-then-addr-base
