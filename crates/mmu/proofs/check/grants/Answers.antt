@@ -1,6 +1,5 @@
 -- `mmu::check::grants` meets its contract: each test by a mask is the definition's test of a bit. Assumes nothing.
 use Rattle.mmu.proofs.Masks.{not_user, no_access, by_frame}
-use Rattle.std.proofs.Common.{rules}
 use Rattle.mmu.proofs.check.grants.Goals as goal
 
 pub returns-then-entry-eq0 : goal.returns-then-entry-eq0

@@ -1,5 +1,5 @@
 -- `mmu::check::judge` meets its contract: the verdict follows what the entry grants. Assumes nothing.
-use Rattle.std.proofs.Common.{◌∙◌, rules}
+use Rattle.std.proofs.Common.{◌∙◌}
 use Rattle.mmu.specs.Check.{judged}
 use Rattle.mmu.proofs.check.judge.Goals as goal
 

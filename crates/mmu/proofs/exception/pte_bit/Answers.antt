@@ -1,5 +1,4 @@
 -- `mmu::exception::pte_bit` meets its contract, case by case. Assumes nothing.
-use Rattle.std.proofs.Common.{rules}
 use Rattle.mmu.proofs.exception.pte_bit.Goals as goal
 
 pub returns-in-Read : goal.returns-in-Read

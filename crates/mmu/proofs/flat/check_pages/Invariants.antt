@@ -1,12 +1,10 @@
 -- `mmu::flat::check_pages` meets its contract. The loop's invariant: the whole check is the check from the present page on, after the reads made so
 -- far. An allowed page lies below the reserved ones, so the next number is a page's, and the loop ends. Assumes nothing.
-use Rattle.std.proofs.Common.{◌≡◌, ◌-◌, ◌*◌, ◌/◌, ◌^◌, ◌<◌, ◌≤◌, length, refl, rules}
-use Rattle.layout.specs.Words.{over_none, over_all}
+use Rattle.std.proofs.Common.{◌≡◌, ◌-◌, ◌*◌, ◌/◌, ◌^◌, ◌<◌, ◌≤◌, length}
 use Rattle.memory.specs.Memory.{lent}
 use Rattle.mmu.specs.Check.{last_page}
 use Rattle.mmu.specs.Flat.{vm_words, vm_at}
-use Rattle.mmu.proofs.Flats.{loops}
-use Rattle.mmu.proofs.Pages.{From, from_start, last_is}
+use Rattle.mmu.proofs.Pages.{From}
 use Rattle.mmu.proofs.flat.check_pages.Given as goal
 
 abbrev pub invariant-loop-e : goal.invariant-loop-e

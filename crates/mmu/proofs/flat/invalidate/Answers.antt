@@ -1,8 +1,7 @@
 -- `mmu::flat::invalidate` meets its contract. The loop's invariant: the entries below `i` are dropped, the others as they were. Assumes nothing.
-use Rattle.std.proofs.Common.{◌≡◌, ◌-◌, ◌/◌, ◌≤◌, length, rules}
+use Rattle.std.proofs.Common.{rules}
 use Rattle.layout.specs.Words.{over_none, over_all}
-use Rattle.mmu.specs.Flat.{vm_words, vm_at}
-use Rattle.mmu.proofs.Flats.{DroppedTo, drops}
+use Rattle.mmu.proofs.Flats.{drops}
 use Rattle.mmu.proofs.flat.invalidate.Goals as goal
 
 pub returns-then-vm-ne-VM_WORDS : goal.returns-then-vm-ne-VM_WORDS

@@ -1,8 +1,7 @@
 -- `mmu::flat::invalidate` meets its contract. The loop's invariant: the entries below `i` are dropped, the others as they were. Assumes nothing.
-use Rattle.std.proofs.Common.{◌≡◌, ◌-◌, ◌/◌, ◌≤◌, length, rules}
-use Rattle.layout.specs.Words.{over_none, over_all}
+use Rattle.std.proofs.Common.{◌≡◌, ◌-◌, ◌/◌, ◌≤◌, length}
 use Rattle.mmu.specs.Flat.{vm_words, vm_at}
-use Rattle.mmu.proofs.Flats.{DroppedTo, drops}
+use Rattle.mmu.proofs.Flats.{DroppedTo}
 use Rattle.mmu.proofs.flat.invalidate.Given as goal
 
 abbrev pub invariant-loop-i : goal.invariant-loop-i

@@ -1,7 +1,6 @@
 -- `mmu::flat::put_tlb` meets its contract. The loop's invariant: the entries below `i` are put, the others as they were. Assumes nothing.
-use Rattle.std.proofs.Common.{◌≡◌, ◌-◌, ◌≤◌, length, rules}
-use Rattle.mmu.specs.Flat.{vm_words, vm_at}
-use Rattle.mmu.proofs.Flats.{PutTo, put_none, put_next, put_done}
+use Rattle.std.proofs.Common.{rules}
+use Rattle.mmu.proofs.Flats.{put_none, put_next, put_done}
 use Rattle.mmu.proofs.flat.put_tlb.Goals as goal
 
 pub loop-i-init : goal.loop-i-init

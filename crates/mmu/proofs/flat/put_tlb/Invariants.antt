@@ -1,7 +1,7 @@
 -- `mmu::flat::put_tlb` meets its contract. The loop's invariant: the entries below `i` are put, the others as they were. Assumes nothing.
-use Rattle.std.proofs.Common.{◌≡◌, ◌-◌, ◌≤◌, length, rules}
+use Rattle.std.proofs.Common.{◌≡◌, ◌-◌, ◌≤◌, length}
 use Rattle.mmu.specs.Flat.{vm_words, vm_at}
-use Rattle.mmu.proofs.Flats.{PutTo, put_none, put_next, put_done}
+use Rattle.mmu.proofs.Flats.{PutTo}
 use Rattle.mmu.proofs.flat.put_tlb.Given as goal
 
 abbrev pub invariant-loop-i : goal.invariant-loop-i

@@ -1,7 +1,5 @@
 -- `mmu::flat::slot_of` meets its contract. The loop's invariant: the whole search is the search from slot `i` on. Assumes nothing.
-use Rattle.std.proofs.Common.{◌≡◌, ◌-◌, ◌≤◌, length, drop, refl, ⊎_elim, rules}
-use Rattle.mmu.specs.Flat.{vm_words, vm_at}
-use Rattle.mmu.specs.Tlb.{first_match}
+use Rattle.std.proofs.Common.{refl, rules}
 use Rattle.mmu.proofs.Flats.{slots}
 use Rattle.mmu.proofs.flat.slot_of.Goals as goal
 use Rattle.mmu.proofs.flat.slot_of.Goals.{then-vm-at+else-vm-at-eq1, else-vm-at}

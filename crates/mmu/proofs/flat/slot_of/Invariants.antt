@@ -1,8 +1,7 @@
 -- `mmu::flat::slot_of` meets its contract. The loop's invariant: the whole search is the search from slot `i` on. Assumes nothing.
-use Rattle.std.proofs.Common.{◌≡◌, ◌-◌, ◌≤◌, length, drop, refl, ⊎_elim, rules}
+use Rattle.std.proofs.Common.{◌≡◌, ◌-◌, ◌≤◌, length, drop}
 use Rattle.mmu.specs.Flat.{vm_words, vm_at}
 use Rattle.mmu.specs.Tlb.{first_match}
-use Rattle.mmu.proofs.Flats.{slots}
 use Rattle.mmu.proofs.flat.slot_of.Given as goal
 
 abbrev pub invariant-loop-i : goal.invariant-loop-i

@@ -1,7 +1,6 @@
 -- `mmu::flat::tlb_at` meets its contract. The loop's invariant: the entries below `i` are read. Assumes nothing.
-use Rattle.std.proofs.Common.{◌≡◌, ◌-◌, ◌≤◌, length, sym, rules}
-use Rattle.common.specs.Lists.{over_to, over_to_none}
-use Rattle.mmu.specs.Flat.{vm_words, vm_at}
+use Rattle.std.proofs.Common.{sym, rules}
+use Rattle.common.specs.Lists.{over_to_none}
 use Rattle.mmu.proofs.Flats.{read_next, read_done}
 use Rattle.mmu.proofs.flat.tlb_at.Goals as goal
 

@@ -1,8 +1,7 @@
 -- `mmu::flat::tlb_at` meets its contract. The loop's invariant: the entries below `i` are read. Assumes nothing.
-use Rattle.std.proofs.Common.{◌≡◌, ◌-◌, ◌≤◌, length, sym, rules}
-use Rattle.common.specs.Lists.{over_to, over_to_none}
+use Rattle.std.proofs.Common.{◌≡◌, ◌-◌, ◌≤◌, length}
+use Rattle.common.specs.Lists.{over_to}
 use Rattle.mmu.specs.Flat.{vm_words, vm_at}
-use Rattle.mmu.proofs.Flats.{read_next, read_done}
 use Rattle.mmu.proofs.flat.tlb_at.Given as goal
 
 abbrev pub invariant-loop-i : goal.invariant-loop-i

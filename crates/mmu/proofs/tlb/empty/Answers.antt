@@ -1,5 +1,4 @@
 -- `mmu::tlb::empty` meets its contract, from `no_entry`'s. Assumes nothing.
-use Rattle.std.proofs.Common.{rules}
 use Rattle.mmu.specs.Tlb.{no_entries}
 use Rattle.mmu.proofs.tlb.empty.Goals as goal
 

@@ -1,9 +1,8 @@
 -- `mmu::tlb::flush` meets its contract. The loop's invariant: the entries below `i` are zeros, the others as they were.
 -- Assumes nothing.
-use Rattle.std.proofs.Common.{◌≡◌, ◌-◌, ◌≤◌, length, sym, ◌∙◌, arith, rules}
-use Rattle.common.specs.Lists.{map_to, map_to_none, map_to_next, map_to_done, map_to_one}
+use Rattle.std.proofs.Common.{sym, ◌∙◌, arith, rules}
+use Rattle.common.specs.Lists.{map_to_none, map_to_next, map_to_done, map_to_one}
 use Rattle.mmu.specs.Tlb.{no_entry, no_entries}
-use Rattle.mmu.specs.declared.tlb.TlbEntry.{TlbEntry}
 use Rattle.mmu.proofs.tlb.flush.Invariants.{zeroed}
 use Rattle.mmu.proofs.tlb.flush.Goals as goal
 

@@ -1,7 +1,7 @@
 -- `mmu::tlb::invalidate` meets its contract. The loop's invariant: the entries below `i` are dropped, the others as they were.
 -- Assumes nothing.
-use Rattle.std.proofs.Common.{◌≡◌, ◌-◌, ◌≤◌, length, sym, arith, rules}
-use Rattle.common.specs.Lists.{map_to, map_to_none, map_to_next, map_to_done}
+use Rattle.std.proofs.Common.{sym, arith, rules}
+use Rattle.common.specs.Lists.{map_to_none, map_to_next, map_to_done}
 use Rattle.mmu.specs.Tlb.{no_entry, dropped, dropped_page}
 use Rattle.mmu.proofs.tlb.invalidate.Goals as goal
 

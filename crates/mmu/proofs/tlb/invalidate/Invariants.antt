@@ -1,8 +1,8 @@
 -- `mmu::tlb::invalidate` meets its contract. The loop's invariant: the entries below `i` are dropped, the others as they were.
 -- Assumes nothing.
-use Rattle.std.proofs.Common.{◌≡◌, ◌-◌, ◌≤◌, length, sym, arith, rules}
-use Rattle.common.specs.Lists.{map_to, map_to_none, map_to_next, map_to_done}
-use Rattle.mmu.specs.Tlb.{no_entry, dropped, dropped_page}
+use Rattle.std.proofs.Common.{◌≡◌, ◌-◌, ◌≤◌, length}
+use Rattle.common.specs.Lists.{map_to}
+use Rattle.mmu.specs.Tlb.{dropped}
 use Rattle.mmu.proofs.tlb.invalidate.Given as goal
 
 abbrev pub invariant-loop-i : goal.invariant-loop-i

@@ -1,6 +1,5 @@
 -- `mmu::tlb::lookup` meets its contract. The loop's invariant: the whole search is the search from slot `i` on. Assumes nothing.
-use Rattle.std.proofs.Common.{◌≡◌, ◌-◌, ◌≤◌, length, drop, refl, ⊎_elim, arith, rules}
-use Rattle.mmu.specs.Tlb.{first_match}
+use Rattle.std.proofs.Common.{refl, arith, rules}
 use Rattle.mmu.proofs.Search.{none_left, found_here, not_valid, other_page}
 use Rattle.mmu.proofs.tlb.lookup.Goals as goal
 use Rattle.mmu.proofs.tlb.lookup.Goals.{then-entry+else-entry-vpn, else-entry}

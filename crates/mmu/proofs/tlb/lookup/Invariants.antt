@@ -1,7 +1,6 @@
 -- `mmu::tlb::lookup` meets its contract. The loop's invariant: the whole search is the search from slot `i` on. Assumes nothing.
-use Rattle.std.proofs.Common.{◌≡◌, ◌-◌, ◌≤◌, length, drop, refl, ⊎_elim, arith, rules}
+use Rattle.std.proofs.Common.{◌≡◌, ◌-◌, ◌≤◌, length, drop}
 use Rattle.mmu.specs.Tlb.{first_match}
-use Rattle.mmu.proofs.Search.{none_left, found_here, not_valid, other_page}
 use Rattle.mmu.proofs.tlb.lookup.Given as goal
 
 abbrev pub invariant-loop-i : goal.invariant-loop-i

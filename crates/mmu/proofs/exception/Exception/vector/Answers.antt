@@ -1,6 +1,5 @@
 -- `mmu::exception::Exception::vector` meets its contract, case by case. Assumes nothing.
 use Rattle.mmu.specs.Exception.{vector_of}
-use Rattle.std.proofs.Common.{rules}
 use Rattle.mmu.proofs.exception.Exception.vector.Goals as goal
 
 pub returns-in-IllegalInstruction : goal.returns-in-IllegalInstruction

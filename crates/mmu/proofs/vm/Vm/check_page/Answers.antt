@@ -1,5 +1,5 @@
 -- `mmu::vm::Vm::check_page` meets its contract: the page is reserved, resident, or walked for. Assumes nothing.
-use Rattle.std.proofs.Common.{◌≡◌, length, sym, ◌∙◌, arith, rules}
+use Rattle.std.proofs.Common.{◌≡◌, length, sym, arith, rules}
 use Rattle.common.specs.Lists.{mapped_length}
 use Rattle.mmu.specs.Tlb.Laws.{found_bound}
 use Rattle.mmu.proofs.Pages.{page_reserved, page_resident, page_walked}

@@ -1,10 +1,8 @@
 -- `mmu::vm::Vm::check_pages` meets its contract. The loop's invariant: the whole check is the check from the present page on, after the
 -- reads made so far. The number after an allowed page's is a page's (`next_number`, by `steps`), so the loop comes to the last page.
 -- Assumes nothing.
-use Rattle.std.proofs.Common.{◌≡◌, ◌-◌, ◌*◌, ◌/◌, ◌^◌, ◌<◌, ◌≤◌, refl, rules}
-use Rattle.memory.specs.Memory.{lent}
-use Rattle.mmu.specs.Check.{last_page}
-use Rattle.mmu.proofs.Pages.{From, from_start, last_is, steps}
+use Rattle.std.proofs.Common.{refl, rules}
+use Rattle.mmu.proofs.Pages.{from_start, last_is, steps}
 use Rattle.mmu.proofs.vm.Vm.check_pages.Goals as goal
 
 pub loop-e-init : goal.loop-e-init

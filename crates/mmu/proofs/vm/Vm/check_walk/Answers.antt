@@ -1,6 +1,5 @@
 -- `mmu::vm::Vm::check_walk` meets its contract: a leaf, none, or a word that could not be read. Assumes nothing.
 use Rattle.mmu.proofs.Pages.{walk_leaf_lem, walk_missing, walk_bus}
-use Rattle.std.proofs.Common.{rules}
 use Rattle.mmu.proofs.vm.Vm.check_walk.Goals as goal
 
 pub returns-in-Leaf : goal.returns-in-Leaf

@@ -1,6 +1,5 @@
 -- `mmu::vm::Vm::fill` meets its contract: what `tlb::fill` put is in the victim's slot. Assumes nothing.
 use Rattle.mmu.specs.Vm.{filled}
-use Rattle.std.proofs.Common.{rules}
 use Rattle.mmu.proofs.vm.Vm.fill.Goals as goal
 
 pub returns : goal.returns

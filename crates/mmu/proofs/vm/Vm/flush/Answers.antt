@@ -1,6 +1,5 @@
 -- `mmu::vm::Vm::flush` meets its contract. Assumes nothing.
 use Rattle.mmu.specs.Vm.{flushed}
-use Rattle.std.proofs.Common.{rules}
 use Rattle.mmu.proofs.vm.Vm.flush.Goals as goal
 
 pub returns : goal.returns

@@ -1,5 +1,5 @@
 -- `mmu::vm::Vm::frame_of` meets its contract: the page is resident, or it is not. Assumes nothing.
-use Rattle.std.proofs.Common.{◌≡◌, length, sym, ◌∙◌, arith, rules}
+use Rattle.std.proofs.Common.{◌≡◌, length, sym, arith, rules}
 use Rattle.common.specs.Lists.{mapped_length}
 use Rattle.mmu.specs.Tlb.Laws.{found_bound}
 use Rattle.mmu.proofs.Pages.{resident_frame, no_frame}

@@ -1,5 +1,4 @@
 -- `mmu::vm::Vm::new` meets its contract. Assumes nothing.
-use Rattle.std.proofs.Common.{rules}
 use Rattle.mmu.proofs.vm.Vm.new.Goals as goal
 
 pub returns : goal.returns
