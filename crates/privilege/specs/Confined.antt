@@ -30,7 +30,7 @@ use Rattle.privilege.specs.Addresses.{addresses}
 use Rattle.privilege.specs.State.{with_vm}
 use Rattle.privilege.specs.Transfer.{physical_of, spots}
 use Rattle.privilege.specs.declared.check.AccessChecked.{AccessChecked}
-use Rattle.privilege.specs.declared.check.Permission.TheVariants.{Allowed, Denied}
+use Rattle.privilege.specs.declared.check.Permission.TheVariants.{Allowed}
 use Rattle.privilege.specs.declared.state.SystemState.{SystemState}
 
 pub record Running (s : SystemState) : Type 0 where

@@ -5,7 +5,7 @@
 --   known sr         == the number is a register's
 --   Registers reg    == R0 to R31, as every register file is
 --   Meaning          == the laws, one field a sentence
-use Rattle.std.specs.Prelude.{◌≡◌, ℕ, ◌+◌, ◌*◌, ◌/◌, ◌%◌, ◌^◌, ◌<◌, ◌≤◌, Bool, true, false, cond, ◌&&◌, ◌||◌, List, [], ◌∷◌, length, get_or, set, ◌==◌, ◌≢◌, nat_le, nat_lt, slice_index, slice_index_or, slice_set}
+use Rattle.std.specs.Prelude.{◌≡◌, ℕ, ◌+◌, ◌*◌, ◌/◌, ◌%◌, ◌^◌, ◌<◌, ◌≤◌, Bool, true, false, cond, ◌&&◌, ◌||◌, List, [], ◌∷◌, length, get_or, ◌==◌, ◌≢◌, nat_le, nat_lt, slice_index, slice_index_or, slice_set}
 use Rattle.common.specs.Bits.{bit_set}
 use Rattle.common.specs.Bytes.{big_endian, bytes_of}
 use Rattle.common.specs.declared.Refusal.{Refusal}

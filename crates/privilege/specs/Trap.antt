@@ -6,7 +6,7 @@
 --   trapped s reg epc cause m == a trap: `enter_trap`
 --   enters_user s           == IRET "enters user mode only if PU is set and U is not"
 --   returned s reg         == IRET: `leave_trap`
-use Rattle.std.specs.Prelude.{ℕ, Bool, true, false, cond, not, ◌&&◌, List, [], ◌∷◌, set, slice_index, slice_set}
+use Rattle.std.specs.Prelude.{ℕ, Bool, true, false, cond, not, ◌&&◌, List, [], ◌∷◌, slice_index, slice_set}
 use Rattle.privilege.specs.State.{with_status, with_ie, with_user, with_epc, with_cause, with_other}
 use Rattle.privilege.specs.declared.state.InstructionMode.{InstructionMode}
 use Rattle.privilege.specs.declared.state.SystemState.{SystemState}

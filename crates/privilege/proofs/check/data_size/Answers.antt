@@ -1,5 +1,4 @@
 -- `privilege::check::data_size` meets its contract. Assumes nothing.
-use Rattle.std.proofs.Common.{rules}
 use Rattle.privilege.proofs.Checks.{data_one, data_more}
 use Rattle.privilege.proofs.check.data_size.Goals as goal
 

@@ -1,5 +1,4 @@
 -- `privilege::check::permission_of` meets its contract, case by case. Assumes nothing.
-use Rattle.std.proofs.Common.{rules}
 use Rattle.privilege.proofs.check.permission_of.Goals as goal
 
 pub returns-in-Denied : goal.returns-in-Denied

@@ -1,5 +1,4 @@
 -- `privilege::registers::region_field` meets its contract: the number is below the regions', above them, a field's, or the one between. Assumes nothing.
-use Rattle.std.proofs.Common.{rules}
 use Rattle.privilege.proofs.Numbers.{field_below, field_above, field_at, field_none}
 use Rattle.privilege.proofs.registers.region_field.Goals as goal
 

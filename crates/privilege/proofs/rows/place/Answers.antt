@@ -1,5 +1,4 @@
 -- `privilege::rows::place` meets its contract: in the first page, or in the second. Assumes nothing.
-use Rattle.std.proofs.Common.{rules}
 use Rattle.privilege.proofs.Places.{in_first, in_second}
 use Rattle.privilege.proofs.rows.place.Goals as goal
 

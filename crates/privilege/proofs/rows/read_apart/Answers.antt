@@ -1,9 +1,6 @@
 -- `privilege::rows::read_apart` meets its contract. The loop's invariant: the whole read is the read of the bytes from byte `i` on, after those
 -- that `value` has; and `value` is no larger than its bytes can make it. Assumes nothing.
-use Rattle.std.proofs.Common.{◌≡◌, ◌-◌, ◌^◌, ◌<◌, ◌≤◌, arith, rules}
-use Rattle.memory.specs.Memory.{lent, read_at}
-use Rattle.memory.specs.Memory.Bytewise.{read_on}
-use Rattle.privilege.specs.Rows.{places_from, rows_of}
+use Rattle.std.proofs.Common.{arith, rules}
 use Rattle.privilege.proofs.Places.{read_start, room_for, value_fits, value_small, all_read, byte_read_lem, byte_missing}
 use Rattle.privilege.proofs.rows.read_apart.Goals as goal
 

@@ -1,5 +1,4 @@
 -- `privilege::rows::read_rows` meets its contract: let in and read, or refused. Assumes nothing.
-use Rattle.std.proofs.Common.{rules}
 use Rattle.privilege.proofs.Transfers.{open_good, read_good, read_refused}
 use Rattle.privilege.proofs.rows.read_rows.Goals as goal
 

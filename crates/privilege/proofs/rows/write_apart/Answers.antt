@@ -1,9 +1,6 @@
 -- `privilege::rows::write_apart` meets its contract. The loop's invariant: the whole write is the write of the bytes from byte `i` on into what
 -- the memory has become, and all are inside if those so far were and those left are. Assumes nothing.
-use Rattle.std.proofs.Common.{◌≡◌, ◌-◌, ◌≤◌, ◌&&◌, length, refl, arith, rules}
-use Rattle.common.specs.Bytes.{bytes_of}
-use Rattle.memory.specs.Memory.{lent, put_at, all_writable}
-use Rattle.privilege.specs.Rows.{places_from, rows_of}
+use Rattle.std.proofs.Common.{refl, arith, rules}
 use Rattle.privilege.proofs.Places.{put_start, inside_start, put_on, inside_on, put_all, inside_all, good_still, length_still}
 use Rattle.privilege.proofs.rows.write_apart.Goals as goal
 

@@ -1,5 +1,4 @@
 -- `privilege::rows::write_rows` meets its contract: let in and written, or refused. Assumes nothing.
-use Rattle.std.proofs.Common.{rules}
 use Rattle.privilege.proofs.Transfers.{open_good, write_good, memory_written, write_refused, memory_kept}
 use Rattle.privilege.proofs.rows.write_rows.Goals as goal
 

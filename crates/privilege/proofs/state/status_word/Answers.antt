@@ -1,5 +1,4 @@
 -- `privilege::state::status_word` meets its contract, bit by bit. Assumes nothing.
-use Rattle.std.proofs.Common.{rules}
 use Rattle.privilege.proofs.state.status_word.Goals as goal
 
 pub returns : goal.returns

@@ -1,5 +1,4 @@
 -- `privilege::transfer::byte_of` meets its contract: a shift by 8 bits is a division by 256. Assumes nothing.
-use Rattle.std.proofs.Common.{rules}
 use Rattle.privilege.proofs.Transfers.{byte_is}
 use Rattle.privilege.proofs.transfer.byte_of.Goals as goal
 

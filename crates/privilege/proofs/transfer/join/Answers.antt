@@ -1,5 +1,4 @@
 -- `privilege::transfer::join` meets its contract: the two parts share no bit. Assumes nothing.
-use Rattle.std.proofs.Common.{rules}
 use Rattle.privilege.proofs.Transfers.{joined_is}
 use Rattle.privilege.proofs.transfer.join.Goals as goal
 

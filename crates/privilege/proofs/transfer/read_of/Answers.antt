@@ -1,5 +1,4 @@
 -- `privilege::transfer::read_of` meets its contract, case by case. Assumes nothing.
-use Rattle.std.proofs.Common.{rules}
 use Rattle.privilege.proofs.transfer.read_of.Goals as goal
 
 pub returns-in-Value : goal.returns-in-Value

@@ -1,5 +1,4 @@
 -- `privilege::flat::access::bare` meets its contract: in one page, or over two. Assumes nothing.
-use Rattle.std.proofs.Common.{rules}
 use Rattle.privilege.proofs.flat.Permits.{bare_in_page, bare_apart}
 use Rattle.privilege.proofs.flat.access.bare.Goals as goal
 

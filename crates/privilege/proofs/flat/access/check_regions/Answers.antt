@@ -1,5 +1,4 @@
 -- `privilege::flat::access::check_regions` meets its contract. Assumes nothing.
-use Rattle.std.proofs.Common.{rules}
 use Rattle.privilege.proofs.flat.Permits.{regions_grant, regions_deny}
 use Rattle.privilege.proofs.flat.access.check_regions.Goals as goal
 

@@ -1,5 +1,4 @@
 -- `privilege::flat::regions::byte_allowed` meets its contract. Assumes nothing.
-use Rattle.std.proofs.Common.{rules}
 use Rattle.privilege.proofs.Regions.{byte_reserved, byte_by_regions}
 use Rattle.privilege.proofs.flat.regions.byte_allowed.Goals as goal
 

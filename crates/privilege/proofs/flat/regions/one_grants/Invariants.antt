@@ -1,7 +1,5 @@
 -- `privilege::flat::regions::one_grants` meets its contract: where it answers yes, one region holds all bytes. Assumes nothing.
-use Rattle.std.proofs.Common.{◌-◌, ◌≤◌, rules}
-use Rattle.common.specs.Cases.{absurd_eq}
-use Rattle.privilege.proofs.flat.Tables.{granted_whole}
+use Rattle.std.proofs.Common.{◌-◌, ◌≤◌}
 use Rattle.privilege.proofs.flat.regions.one_grants.Given as goal
 
 abbrev pub invariant-loop-i : goal.invariant-loop-i

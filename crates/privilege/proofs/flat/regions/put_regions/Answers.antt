@@ -1,7 +1,5 @@
 -- `privilege::flat::regions::put_regions` meets its contract. The loop's invariant: the first i regions are written. Assumes nothing.
-use Rattle.std.proofs.Common.{◌≡◌, ◌-◌, ◌≤◌, length, rules}
-use Rattle.common.specs.Lists.{over_to}
-use Rattle.privilege.specs.Flat.{regions_at}
+use Rattle.std.proofs.Common.{rules}
 use Rattle.privilege.proofs.flat.Tables.{put_none, put_next, put_done}
 use Rattle.privilege.proofs.flat.regions.put_regions.Goals as goal
 

@@ -1,8 +1,7 @@
 -- `privilege::flat::regions::regions_of` meets its contract. The loop's invariant: the first i regions are read. Assumes nothing.
-use Rattle.std.proofs.Common.{◌≡◌, ◌-◌, ◌≤◌, length, rules}
+use Rattle.std.proofs.Common.{◌≡◌, ◌-◌, ◌≤◌, length}
 use Rattle.common.specs.Lists.{over_to}
 use Rattle.privilege.specs.Flat.{regions_at}
-use Rattle.privilege.proofs.flat.Tables.{take_none, take_next, take_done}
 use Rattle.privilege.proofs.flat.regions.regions_of.Given as goal
 
 abbrev pub invariant-loop-i : goal.invariant-loop-i

@@ -1,8 +1,6 @@
 -- `privilege::flat::regions::some_grants` meets its contract. The loop's invariant: the whole search is the search from region `i` on.
 -- Assumes nothing.
-use Rattle.std.proofs.Common.{◌≡◌, ◌-◌, ◌≤◌, drop, refl, rules}
-use Rattle.privilege.specs.Region.{some_grants}
-use Rattle.privilege.specs.Flat.{regions_at}
+use Rattle.std.proofs.Common.{refl, rules}
 use Rattle.privilege.proofs.flat.Tables.{none_in, granted_in, not_in}
 use Rattle.privilege.proofs.flat.regions.some_grants.Goals as goal
 

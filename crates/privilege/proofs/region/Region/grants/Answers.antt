@@ -1,5 +1,4 @@
 -- `privilege::region::Region::grants` meets its contract: the mask tests the access's bit, and the two ends are the definition's. Assumes nothing.
-use Rattle.std.proofs.Common.{rules}
 use Rattle.privilege.proofs.Regions.{not_granted, before_start, by_end}
 use Rattle.privilege.proofs.region.Region.grants.Goals as goal
 

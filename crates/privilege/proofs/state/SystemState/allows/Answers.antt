@@ -1,5 +1,4 @@
 -- `privilege::state::SystemState::allows` meets its contract: the regions decide, or nothing does. Assumes nothing.
-use Rattle.std.proofs.Common.{rules}
 use Rattle.privilege.proofs.Checks.{by_regions_lem, supervisor}
 use Rattle.privilege.proofs.state.SystemState.allows.Goals as goal
 

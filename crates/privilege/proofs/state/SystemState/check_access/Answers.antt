@@ -1,5 +1,4 @@
 -- `privilege::state::SystemState::check_access` meets its contract: let in and checked, or refused. Assumes nothing.
-use Rattle.std.proofs.Common.{rules}
 use Rattle.privilege.proofs.Checks.{let_in, shut}
 use Rattle.privilege.proofs.state.SystemState.check_access.Goals as goal
 

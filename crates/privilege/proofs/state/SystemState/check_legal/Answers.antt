@@ -1,5 +1,4 @@
 -- `privilege::state::SystemState::check_legal` meets its contract: the pages decide, or the regions do. Assumes nothing.
-use Rattle.std.proofs.Common.{rules}
 use Rattle.privilege.proofs.Checks.{by_pages, allowed, denied}
 use Rattle.privilege.proofs.state.SystemState.check_legal.Goals as goal
 

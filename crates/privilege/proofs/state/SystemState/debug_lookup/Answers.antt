@@ -1,5 +1,5 @@
 -- `privilege::state::SystemState::debug_lookup` meets its contract: resident, or walked. Assumes nothing.
-use Rattle.std.proofs.Common.{◌≡◌, length, sym, ◌∙◌, arith, rules}
+use Rattle.std.proofs.Common.{◌≡◌, length, sym, arith, rules}
 use Rattle.common.specs.Lists.{mapped_length}
 use Rattle.mmu.specs.Tlb.Laws.{found_bound}
 use Rattle.privilege.proofs.Views.{view_resident, view_walked}

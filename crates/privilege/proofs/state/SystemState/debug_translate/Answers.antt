@@ -1,5 +1,4 @@
 -- `privilege::state::SystemState::debug_translate` meets its contract: let in and looked up, or refused. Assumes nothing.
-use Rattle.std.proofs.Common.{rules}
 use Rattle.privilege.proofs.Views.{view_shown, view_refused}
 use Rattle.privilege.proofs.state.SystemState.debug_translate.Goals as goal
 

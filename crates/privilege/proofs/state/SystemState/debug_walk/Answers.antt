@@ -1,5 +1,4 @@
 -- `privilege::state::SystemState::debug_walk` meets its contract: a leaf, none, or a word that could not be read. Assumes nothing.
-use Rattle.std.proofs.Common.{rules}
 use Rattle.privilege.proofs.Views.{walk_mapped, walk_unmapped, walk_bus}
 use Rattle.privilege.proofs.state.SystemState.debug_walk.Goals as goal
 

@@ -1,5 +1,4 @@
 -- `privilege::state::SystemState::enter_trap` meets its contract: from user mode with the exchange, from supervisor mode without. Assumes nothing.
-use Rattle.std.proofs.Common.{rules}
 use Rattle.privilege.proofs.Traps.{from_user, from_supervisor}
 use Rattle.privilege.proofs.state.SystemState.enter_trap.Goals as goal
 

@@ -1,5 +1,4 @@
 -- `privilege::state::SystemState::leave_trap` meets its contract: user mode is entered with the exchange, or all but IE stays. Assumes nothing.
-use Rattle.std.proofs.Common.{rules}
 use Rattle.privilege.proofs.Traps.{to_user, stays}
 use Rattle.privilege.proofs.state.SystemState.leave_trap.Goals as goal
 

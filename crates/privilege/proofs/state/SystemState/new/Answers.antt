@@ -1,5 +1,4 @@
 -- `privilege::state::SystemState::new` meets its contract. Assumes nothing.
-use Rattle.std.proofs.Common.{rules}
 use Rattle.privilege.specs.State.{no_regions}
 use Rattle.privilege.proofs.state.SystemState.new.Goals as goal
 

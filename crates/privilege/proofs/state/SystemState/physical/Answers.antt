@@ -1,5 +1,4 @@
 -- `privilege::state::SystemState::physical` meets its contract: translated, or not. Assumes nothing.
-use Rattle.std.proofs.Common.{rules}
 use Rattle.privilege.proofs.Transfers.{translated, untranslated}
 use Rattle.privilege.proofs.state.SystemState.physical.Goals as goal
 

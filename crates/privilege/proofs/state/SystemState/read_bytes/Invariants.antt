@@ -1,10 +1,9 @@
 -- `privilege::state::SystemState::read_bytes` meets its contract. The loop's invariant: the whole read is the read of the `left` bytes from
 -- `at` on, after those that `value` has; and `value` is no larger than its bytes can make it. Assumes nothing.
-use Rattle.std.proofs.Common.{◌≡◌, ◌+◌, ◌-◌, ◌^◌, ◌<◌, ◌≤◌, sym, ◌∙◌, arith, rules}
+use Rattle.std.proofs.Common.{◌≡◌, ◌-◌, ◌^◌, ◌<◌, ◌≤◌}
 use Rattle.memory.specs.Memory.{lent, read_at}
-use Rattle.memory.specs.Memory.Bytewise.{read_on, read_whole, byte_small}
+use Rattle.memory.specs.Memory.Bytewise.{read_on}
 use Rattle.privilege.specs.Transfer.{spots}
-use Rattle.privilege.proofs.Transfers.{next_small, next_fits, all_read, byte_read_lem, byte_missing}
 use Rattle.privilege.proofs.state.SystemState.read_bytes.Given as goal
 
 abbrev pub invariant-loop-left : goal.invariant-loop-left

@@ -1,5 +1,5 @@
 -- `privilege::state::SystemState::read_region` meets its contract: the number is no region's, or a field's. Assumes nothing.
-use Rattle.std.proofs.Common.{◌≡◌, length, sym, ◌∙◌, arith, rules}
+use Rattle.std.proofs.Common.{◌≡◌, length, sym, arith, rules}
 use Rattle.common.specs.Lists.{mapped_length}
 use Rattle.privilege.proofs.Numbers.{field_bound, read_unknown, read_field}
 use Rattle.privilege.proofs.state.SystemState.read_region.Goals as goal

@@ -1,5 +1,4 @@
 -- `privilege::state::SystemState::read_spots` meets its contract: inside a page the next byte has the next address. Assumes nothing.
-use Rattle.std.proofs.Common.{rules}
 use Rattle.privilege.proofs.Transfers.{word_read}
 use Rattle.privilege.proofs.state.SystemState.read_spots.Goals as goal
 

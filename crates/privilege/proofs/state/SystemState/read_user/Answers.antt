@@ -1,5 +1,4 @@
 -- `privilege::state::SystemState::read_user` meets its contract: the live register, or the saved one. Assumes nothing.
-use Rattle.std.proofs.Common.{rules}
 use Rattle.privilege.proofs.Numbers.{read_live, read_saved}
 use Rattle.privilege.proofs.state.SystemState.read_user.Goals as goal
 

@@ -1,5 +1,4 @@
 -- `privilege::state::SystemState::status` meets its contract: the bits are the definition's. Assumes nothing.
-use Rattle.std.proofs.Common.{rules}
 use Rattle.privilege.proofs.States.{status_is}
 use Rattle.privilege.proofs.state.SystemState.status.Goals as goal
 

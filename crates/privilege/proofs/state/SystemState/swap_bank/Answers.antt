@@ -1,5 +1,4 @@
 -- `privilege::state::SystemState::swap_bank` meets its contract: the two banks are those that its calls made. Assumes nothing.
-use Rattle.std.proofs.Common.{rules}
 use Rattle.privilege.proofs.Traps.{exchanged_is}
 use Rattle.privilege.proofs.state.SystemState.swap_bank.Goals as goal
 

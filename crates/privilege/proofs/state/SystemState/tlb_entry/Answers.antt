@@ -1,5 +1,4 @@
 -- `privilege::state::SystemState::tlb_entry` meets its contract. Assumes nothing.
-use Rattle.std.proofs.Common.{rules}
 use Rattle.privilege.proofs.Views.{view_is}
 use Rattle.privilege.proofs.state.SystemState.tlb_entry.Goals as goal
 

@@ -1,11 +1,9 @@
 -- `privilege::state::SystemState::write_bytes` meets its contract. The loop's invariant: the whole write is the write of the `left` bytes from
 -- `at` on into what the memory has become, and all are inside if those so far were and those left are. Assumes nothing.
-use Rattle.std.proofs.Common.{◌≡◌, ◌≤◌, ◌&&◌, length, refl, ◌∙◌, arith, rules}
+use Rattle.std.proofs.Common.{◌≡◌, ◌≤◌, ◌&&◌, length}
 use Rattle.common.specs.Bytes.{bytes_of}
 use Rattle.memory.specs.Memory.{lent, put_at, all_writable}
-use Rattle.memory.specs.Memory.Laws.{put_length}
 use Rattle.privilege.specs.Transfer.{spots}
-use Rattle.privilege.proofs.Transfers.{put_on, inside_on, put_all, inside_all}
 use Rattle.privilege.proofs.state.SystemState.write_bytes.Given as goal
 
 abbrev pub invariant-loop-left : goal.invariant-loop-left

@@ -1,5 +1,4 @@
 -- `privilege::state::SystemState::write_region` meets its contract: the number is no region's, or a field's. Assumes nothing.
-use Rattle.std.proofs.Common.{rules}
 use Rattle.privilege.proofs.Numbers.{write_unknown, write_field}
 use Rattle.privilege.proofs.state.SystemState.write_region.Goals as goal
 

@@ -1,5 +1,4 @@
 -- `privilege::state::SystemState::write_user` meets its contract: the live register, or the saved one. Assumes nothing.
-use Rattle.std.proofs.Common.{rules}
 use Rattle.privilege.proofs.Numbers.{write_live, write_saved}
 use Rattle.privilege.proofs.state.SystemState.write_user.Goals as goal
 
