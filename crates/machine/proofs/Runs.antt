@@ -180,11 +180,11 @@ lines_are s h = run_lines h.events s h.events_at _ _
 
 module _ (s : List ℕ) (h : Header) (out : List ℕ) (z : List ℕ × ℕ) where
   -- a run over the image by a new machine is the script's
-  pub good_run_lem : (M : Machine) (l mem : List ℕ) → M ≡ new_machine h.base h.image h.penalty → l ≡ bytes_from s h.image_at (length mem)
+  pub good_run : (M : Machine) (l mem : List ℕ) → M ≡ new_machine h.base h.image h.penalty → l ≡ bytes_from s h.image_at (length mem)
       → length mem ≡ h.image → z ≡ written (out, 0) (lines_from 0 (run_from h.events s h.events_at M (lent h.base l)).lines ++ end_text h.events)
       → z ≡ written (out, 0) (lines_from 0 (script_run s h).lines ++ end_text h.events)
   unfolding script_run
-  good_run_lem M l mem g f e q = q ∙ rw (g, f, e)
+  good_run M l mem g f e q = q ∙ rw (g, f, e)
 
   pub good_listed : (x : Script) → x ≡ script_of s → x ≡ Good h → z ≡ written (out, 0) (lines_from 0 (script_run s h).lines ++ end_text h.events) → z ≡ written (out, 0) (listing_of s)
   unfolding listing_of listed

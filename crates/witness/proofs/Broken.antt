@@ -157,7 +157,7 @@ needed =
           counter unhidden_pages 1 1 1 0 0 0 [] (user_state 1 (tlb_of (readable 0))) (one_page_open 0) (one_page_open 1) _
           (λ n. aligned_load) (λ n. refl) (λ n. refl) (λ n. refl) (λ n. refl) (λ n. (refl, refl)) left_out (λ n. (refl, refl))
           _ _ (one_each _ _ _ _ _ _ computed.open_page) (λ e. absurd_eq (cc));
-      writable_table_lem =
+      writable_table =
           counter shut_tables 3 0 1 1 2 2048 own_leaf (user_state 0 (tlb_of no_entry))
           (own_leaf_open 0) (own_leaf_open 1) _
           (λ n. ((lit< tt, refl), ((lit< tt, refl), tt))) (λ n. refl) (λ n. refl) (λ n. refl) (λ n. refl) (λ n. (refl, refl)) (λ n. refl) left_out

@@ -132,6 +132,6 @@ pub record Needed : Type 0 where
       Counterexample unhidden_pages (on_page 0) (load 4 0 ∷ []) (machine_with 1 (user_state 1 (tlb_of (readable 0)))) (one_page 0) (one_page 1)
       (answer (Value 0) 8 0 ∷ []) (answer (Value 1) 8 0 ∷ [])
   -- a user who can write the level-2 table puts a leaf of the hidden page into it, and reads that page
-  pub writable_table_lem :
+  pub writable_table :
       Counterexample shut_tables (on_page 2) (store 4 4 0x2013 ∷ load 4 0x1000 ∷ []) (machine_with 3 (user_state 0 (tlb_of no_entry))) (writable_table 0) (writable_table 1)
       (answer (Value 0) 0 2 ∷ answer (Value 0) 8 2 ∷ []) (answer (Value 0) 0 2 ∷ answer (Value 1) 8 2 ∷ [])

@@ -1,6 +1,5 @@
 -- `bridge::exception_calls::vector_number` meets its contract: each case has its number. Assumes nothing.
 use Rattle.bridge.specs.Exception.{vector_number}
-use borrow.Author.Rules.{rules}
 use Rattle.bridge.proofs.exception_calls.vector_number.Goals as goal
 
 pub returns-in-Illegal : goal.returns-in-Illegal

@@ -1,5 +1,4 @@
 -- `bridge::machine_calls::machine_new` meets its contract: a new machine's numbers. Assumes nothing.
-use borrow.Author.Rules.{rules}
 use Rattle.bridge.proofs.machine_calls.machine_new.Goals as goal
 
 pub returns : goal.returns

@@ -1,6 +1,5 @@
 -- `bridge::machine_calls::machine_numbers` meets its contract: each part is the machine's. Assumes nothing.
 use Rattle.bridge.specs.Machine.{machine_numbers}
-use borrow.Author.Rules.{rules}
 use Rattle.bridge.proofs.machine_calls.machine_numbers.Goals as goal
 
 pub returns : goal.returns

@@ -1,6 +1,5 @@
 -- `bridge::machine_calls::machine_of` meets its contract: each part is the one that crossed. Assumes nothing.
 use Rattle.bridge.specs.Machine.{machine_of}
-use borrow.Author.Rules.{rules}
 use Rattle.bridge.proofs.machine_calls.machine_of.Goals as goal
 
 pub returns : goal.returns

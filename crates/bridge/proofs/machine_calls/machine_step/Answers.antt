@@ -1,5 +1,4 @@
 -- `bridge::machine_calls::machine_step` meets its contract: the step of the machine that crossed, as numbers. Assumes nothing.
-use borrow.Author.Rules.{rules}
 use Rattle.bridge.proofs.machine_calls.machine_step.Goals as goal
 
 pub returns : goal.returns

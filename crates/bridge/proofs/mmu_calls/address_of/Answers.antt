@@ -1,6 +1,5 @@
 -- `bridge::mmu_calls::address_of` meets its contract, case by case. Assumes nothing.
 use Rattle.bridge.specs.Mmu.{address_of}
-use borrow.Author.Rules.{rules}
 use Rattle.bridge.proofs.mmu_calls.address_of.Goals as goal
 
 pub returns-in-IllegalInstruction : goal.returns-in-IllegalInstruction

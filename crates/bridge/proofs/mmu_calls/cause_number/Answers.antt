@@ -1,6 +1,5 @@
 -- `bridge::mmu_calls::cause_number` meets its contract: a denied access has its exception's CAUSE. Assumes nothing.
 use Rattle.bridge.proofs.Answers.{cause-allowed, cause-denied}
-use borrow.Author.Rules.{rules}
 use Rattle.bridge.proofs.mmu_calls.cause_number.Goals as goal
 
 pub returns-in-Allowed : goal.returns-in-Allowed

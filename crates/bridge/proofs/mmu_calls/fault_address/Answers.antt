@@ -1,6 +1,5 @@
 -- `bridge::mmu_calls::fault_address` meets its contract: a denied access has its exception's address. Assumes nothing.
 use Rattle.bridge.proofs.Answers.{fault-allowed, fault-denied}
-use borrow.Author.Rules.{rules}
 use Rattle.bridge.proofs.mmu_calls.fault_address.Goals as goal
 
 pub returns-in-Allowed : goal.returns-in-Allowed

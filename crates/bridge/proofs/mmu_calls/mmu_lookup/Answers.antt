@@ -1,6 +1,5 @@
 -- `bridge::mmu_calls::mmu_lookup` meets its contract: the slot found, or 16. Assumes nothing.
 use Rattle.bridge.proofs.Answers.{slot_at, slot_none}
-use borrow.Author.Rules.{rules}
 use Rattle.bridge.proofs.mmu_calls.mmu_lookup.Goals as goal
 
 pub returns-in-At : goal.returns-in-At

@@ -1,6 +1,5 @@
 -- `bridge::mmu_calls::mmu_walk` meets its contract: its numbers are those of the walk. Assumes nothing.
 use Rattle.bridge.proofs.Answers.{walked-leaf, walked-missing, walked-bus-error}
-use borrow.Author.Rules.{rules}
 use Rattle.bridge.proofs.mmu_calls.mmu_walk.Goals as goal
 
 pub returns-in-Leaf : goal.returns-in-Leaf

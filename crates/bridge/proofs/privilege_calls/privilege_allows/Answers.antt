@@ -1,5 +1,4 @@
 -- `bridge::privilege_calls::privilege_allows` meets its contract: the state that crossed allows it. Assumes nothing.
-use borrow.Author.Rules.{rules}
 use Rattle.bridge.proofs.privilege_calls.privilege_allows.Goals as goal
 
 pub returns : goal.returns

@@ -1,5 +1,4 @@
 -- `bridge::privilege_calls::privilege_debug_translate` meets its contract: the translation by the state that crossed. Assumes nothing.
-use borrow.Author.Rules.{rules}
 use Rattle.bridge.proofs.privilege_calls.privilege_debug_translate.Goals as goal
 
 pub returns : goal.returns

@@ -1,5 +1,4 @@
 -- `bridge::privilege_calls::privilege_tlb_entry` meets its contract: the view of the state that crossed. Assumes nothing.
-use borrow.Author.Rules.{rules}
 use Rattle.bridge.proofs.privilege_calls.privilege_tlb_entry.Goals as goal
 
 pub returns : goal.returns

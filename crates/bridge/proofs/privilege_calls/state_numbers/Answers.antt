@@ -1,5 +1,4 @@
 -- `bridge::privilege_calls::state_numbers` meets its contract: each field is the state's. Assumes nothing.
-use borrow.Author.Rules.{rules}
 use Rattle.bridge.specs.Privilege.{state_numbers}
 use Rattle.bridge.proofs.privilege_calls.state_numbers.Goals as goal
 

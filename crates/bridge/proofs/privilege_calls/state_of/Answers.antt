@@ -1,5 +1,4 @@
 -- `bridge::privilege_calls::state_of` meets its contract: each field is the one that crossed. Assumes nothing.
-use borrow.Author.Rules.{rules}
 use Rattle.bridge.specs.Privilege.{state_of}
 use Rattle.bridge.proofs.privilege_calls.state_of.Goals as goal
 

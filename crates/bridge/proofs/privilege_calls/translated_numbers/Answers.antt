@@ -1,6 +1,5 @@
 -- `bridge::privilege_calls::translated_numbers` meets its contract: each case has its numbers. Assumes nothing.
 use Rattle.bridge.proofs.Answers.{translated-mapped, translated-unmapped, translated-bus-error, translated-refused}
-use borrow.Author.Rules.{rules}
 use Rattle.bridge.proofs.privilege_calls.translated_numbers.Goals as goal
 
 pub returns-in-Mapped : goal.returns-in-Mapped

@@ -1,5 +1,4 @@
 -- `machine::totals::one_more` meets its contract. Assumes nothing.
-use Rattle.std.proofs.Common.{rules}
 use Rattle.machine.proofs.totals.one_more.Goals as goal
 
 pub returns-then-more : goal.returns-then-more

@@ -1,8 +1,7 @@
 -- `machine::flat::run::run` meets its contract. The loop's invariant: the whole run is what is left of it from here, on the machine of the
 -- words. Assumes nothing.
-use Rattle.std.proofs.Common.{◌≡◌, ◌+◌, ◌-◌, ◌*◌, ◌^◌, ◌<◌, ◌≤◌, length, sym, refl, ◌∙◌, arith, rules}
-use Rattle.machine.specs.Flat.{state_words, machine_at}
-use Rattle.machine.proofs.Runs.{Going, whole, text, going_first, words_next, words_end, words_none, event_here, next_fits}
+use Rattle.std.proofs.Common.{sym, refl, ◌∙◌, arith, rules}
+use Rattle.machine.proofs.Runs.{going_first, words_next, words_end, words_none, event_here, next_fits}
 use Rattle.machine.proofs.flat.run.run.Goals as goal
 
 pub returns-then-state-ne-STATE_WORDS : goal.returns-then-state-ne-STATE_WORDS

@@ -1,8 +1,8 @@
 -- `machine::flat::run::run` meets its contract. The loop's invariant: the whole run is what is left of it from here, on the machine of the
 -- words. Assumes nothing.
-use Rattle.std.proofs.Common.{◌≡◌, ◌+◌, ◌-◌, ◌*◌, ◌^◌, ◌<◌, ◌≤◌, length, sym, refl, ◌∙◌, arith, rules}
+use Rattle.std.proofs.Common.{◌≡◌, ◌+◌, ◌-◌, ◌*◌, ◌^◌, ◌<◌, ◌≤◌, length}
 use Rattle.machine.specs.Flat.{state_words, machine_at}
-use Rattle.machine.proofs.Runs.{Going, whole, text, going_first, words_next, words_end, words_none, event_here, next_fits}
+use Rattle.machine.proofs.Runs.{Going, whole, text}
 use Rattle.machine.proofs.flat.run.run.Given as goal
 
 abbrev pub invariant-loop-k : goal.invariant-loop-k

@@ -1,6 +1,5 @@
 -- `machine::state::Machine::new` meets its contract. Assumes nothing.
 use Rattle.machine.proofs.States.{new_is}
-use Rattle.std.proofs.Common.{rules}
 use Rattle.machine.proofs.state.Machine.new.Goals as goal
 
 pub returns : goal.returns

@@ -1,6 +1,5 @@
 -- `machine::state::Machine::reset` meets its contract. Assumes nothing.
 use Rattle.machine.specs.State.{reset_of}
-use Rattle.std.proofs.Common.{rules}
 use Rattle.machine.proofs.state.Machine.reset.Goals as goal
 
 pub returns : goal.returns
