@@ -28,7 +28,7 @@ fn show_event<W: Write>(
     to: &mut W,
     k: u32,
     line: Line,
-    m: Machine,
+    m: &Machine,
     mem: &[u8],
     before: &mut [u8],
     only_changes: bool,
@@ -75,7 +75,7 @@ fn show_good<W: Write>(
         let after = stepped.machine;
         machine = after;
         let line = stepped.line;
-        show_event(to, k, line, machine, mem, &mut before, only_changes)?;
+        show_event(to, k, line, &machine, mem, &mut before, only_changes)?;
         k += 1;
     }
     show_end(to, h.events)
