@@ -29,8 +29,12 @@ fn show_all<W: Write>(to: &mut W, input: &[u8]) -> io::Result<()> {
     Ok(())
 }
 
+fn empty_input() -> [u8; 524288] {
+    [0u8; 524288]
+}
+
 fn main(rt: HostRuntime) -> io::Result<()> {
-    let mut input = [0u8; 524288];
+    let mut input = empty_input();
     let n = read_full(&mut rt.stdin(), &mut input)?;
     show_all(&mut rt.stdout(), &input[..n])
 }
