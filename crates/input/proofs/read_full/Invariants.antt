@@ -5,9 +5,10 @@ use Rattle.input.proofs.read_full.Given as goal
 
 abbrev pub invariant-loop-done : goal.invariant-loop-done
 invariant-loop-done g l = record {
-    same_length : length l.buf ≡ length l.initial.buf;
-    within : l.done ≤ length l.buf;
-    consumed : Consumes (g.R.Read.remaining l.initial.from) (g.R.Read.remaining l.from) (take l.done l.buf) }
+  same_length : length l.buf ≡ length l.initial.buf;
+  within : l.done ≤ length l.buf;
+  consumed : Consumes (g.R.Read.remaining l.initial.from) (g.R.Read.remaining l.from) (take l.done l.buf);
+}
 
 abbrev pub decreases-loop-done : goal.decreases-loop-done
 decreases-loop-done g l = length l.buf - l.done
