@@ -8,7 +8,10 @@
 
 use cache::{Bank, CacheAccess, L1Cache};
 use digest::FNV_START;
+use input::read_full;
 use script::{EVENT_SIZE, Event};
+use std::io;
+use std::io::Write;
 use text::{put_byte, put_hex};
 
 #[derive(Clone, Copy)]
@@ -107,24 +110,27 @@ fn put_line(line: &mut [u8], answer: Answer) -> usize {
     put_byte(line, tags, b'\n')
 }
 
-fn show(answer: Answer) {
+fn show<W: Write>(out: &mut W, answer: Answer) -> io::Result<()> {
     let mut line = [0u8; 128];
     let end = put_line(&mut line, answer);
     if end <= 128 {
-        io::write_all(1, &line[..end]);
+        return out.write_all(&line[..end]);
     }
+    Ok(())
 }
 
-fn main() {
-    let mut input = io::large_buffer();
-    let n = io::read_full(0, &mut input);
+fn main(rt: HostRuntime) -> io::Result<()> {
+    let mut out = rt.stdout();
+    let mut input = [0u8; 65536];
+    let n = read_full(&mut rt.stdin(), &mut input)?;
     let mut c = L1Cache::new(0, 0x8000);
     let mut at: usize = 0;
     while at < n {
         let answer = step(c, script::event_at(&input[..n], at));
-        show(answer);
+        show(&mut out, answer)?;
         let next = answer.cache;
         c = next;
         at += EVENT_SIZE;
     }
+    Ok(())
 }

@@ -12,6 +12,8 @@ use mmu::vm::Vm;
 use privilege::check::{AccessChecked, Permission};
 use privilege::state::SystemState;
 use privilege::transfer::DataRead;
+use std::io;
+use std::io::Write;
 use text::{put_byte, put_bytes, put_decimal, put_hex};
 
 const VA: u32 = 0x5FFE;
@@ -99,31 +101,32 @@ fn put_line(out: &mut [u8], value: u32, reads: u32, vm: Vm) -> usize {
     put_byte(out, slot, b'\n')
 }
 
-fn show(value: u32, reads: u32, vm: Vm) {
+fn show<W: Write>(to: &mut W, value: u32, reads: u32, vm: Vm) -> io::Result<()> {
     let mut out = [0u8; 128];
     let end = put_line(&mut out, value, reads, vm);
     if end <= 128 {
-        io::write_all(1, &out[..end]);
+        return to.write_all(&out[..end]);
     }
+    Ok(())
 }
 
-fn load(checked: AccessChecked, mem: &[u8]) {
+fn load<W: Write>(to: &mut W, checked: AccessChecked, mem: &[u8]) -> io::Result<()> {
     let sys = checked.sys;
     let vm = sys.vm;
     let read = sys.read_data(mem, 0, VA, 4);
     let DataRead::Value(value) = read else {
-        return;
+        return Ok(());
     };
-    show(value, checked.reads, vm);
+    show(to, value, checked.reads, vm)
 }
 
 // Nothing is printed where the check denies the load or its data has a bus error.
-fn main() {
+fn main(rt: HostRuntime) -> io::Result<()> {
     let mem = memory();
     let checked = user_state().check_access(&mem, 0, VA, 4, Access::Read);
     let permission = checked.permission;
     match permission {
-        Permission::Allowed => load(checked, &mem),
-        _ => return,
+        Permission::Allowed => load(&mut rt.stdout(), checked, &mem),
+        _ => Ok(()),
     }
 }

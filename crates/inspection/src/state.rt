@@ -131,7 +131,7 @@ fn put_system(out: &mut [u8], at: usize, sys: SystemState) -> usize {
     put_tlb(out, regions, sys.vm)
 }
 
-fn put_machine(out: &mut [u8], at: usize, m: Machine) -> usize {
+fn put_machine(out: &mut [u8], at: usize, m: &Machine) -> usize {
     let reg = m.reg;
     let system = put_system(out, at, m.sys);
     let irqc = put_irqc(out, system, m.irqc);
@@ -139,7 +139,7 @@ fn put_machine(out: &mut [u8], at: usize, m: Machine) -> usize {
     put_registers(out, cache, reg)
 }
 
-pub fn put_state(out: &mut [u8], at: usize, m: Machine, mem: &[u8]) -> usize {
+pub fn put_state(out: &mut [u8], at: usize, m: &Machine, mem: &[u8]) -> usize {
     let machine = put_machine(out, at, m);
     put_memory(out, machine, mem)
 }

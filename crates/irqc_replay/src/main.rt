@@ -5,8 +5,11 @@
 // nothing. A line has pending, enable, valid, number, the register bytes 0 to 7, and the register byte at a.
 #![tactic(auto)]
 
+use input::read_full;
 use irqc::IrqController;
 use script::{EVENT_SIZE, Event};
+use std::io;
+use std::io::Write;
 use text::{put_byte, put_hex};
 
 fn step(c: IrqController, e: Event) -> IrqController {
@@ -56,23 +59,26 @@ fn put_line(line: &mut [u8], c: IrqController, addr: u32) -> usize {
     put_byte(line, last, b'\n')
 }
 
-fn show(c: IrqController, addr: u32) {
+fn show<W: Write>(out: &mut W, c: IrqController, addr: u32) -> io::Result<()> {
     let mut line = [0u8; 64];
     let end = put_line(&mut line, c, addr);
     if end <= 64 {
-        io::write_all(1, &line[..end]);
+        return out.write_all(&line[..end]);
     }
+    Ok(())
 }
 
-fn main() {
-    let mut input = io::large_buffer();
-    let n = io::read_full(0, &mut input);
+fn main(rt: HostRuntime) -> io::Result<()> {
+    let mut out = rt.stdout();
+    let mut input = [0u8; 65536];
+    let n = read_full(&mut rt.stdin(), &mut input)?;
     let mut c = IrqController::new();
     let mut at: usize = 0;
     while at < n {
         let e = script::event_at(&input[..n], at);
         c = step(c, e);
-        show(c, e.a);
+        show(&mut out, c, e.a)?;
         at += EVENT_SIZE;
     }
+    Ok(())
 }

@@ -4,31 +4,37 @@
 #![tactic(auto)]
 
 use common::be_word;
+use input::read_full;
+use std::io;
+use std::io::Write;
 
-fn show_cut() {
-    io::write_all(1, b"cut off\n");
+fn show_cut<W: Write>(to: &mut W) -> io::Result<()> {
+    to.write_all(b"cut off\n")
 }
 
-fn show_all(input: &[u8]) {
+fn show_all<W: Write>(to: &mut W, input: &[u8]) -> io::Result<()> {
     let mut at: usize = 0;
     while at < input.len() {
         if input.len() - at < 4 {
-            show_cut();
-            return;
+            return show_cut(to);
         }
         let length = be_word(input[at], input[at + 1], input[at + 2], input[at + 3]) as usize;
         let first = at + 4;
         if length > input.len() - first {
-            show_cut();
-            return;
+            return show_cut(to);
         }
-        inspection::show_changes(&input[first..first + length]);
+        inspection::show_changes(to, &input[first..first + length])?;
         at = first + length;
     }
+    Ok(())
 }
 
-fn main() {
-    let mut input = [0u8; 524288];
-    let n = io::read_full(0, &mut input);
-    show_all(&input[..n]);
+fn empty_input() -> [u8; 524288] {
+    [0u8; 524288]
+}
+
+fn main(rt: HostRuntime) -> io::Result<()> {
+    let mut input = empty_input();
+    let n = read_full(&mut rt.stdin(), &mut input)?;
+    show_all(&mut rt.stdout(), &input[..n])
 }

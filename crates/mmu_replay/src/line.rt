@@ -3,6 +3,8 @@ use crate::answer::Answer;
 use digest::{FNV_START, fnv_word};
 use mmu::tlb::TlbEntry;
 use mmu::vm::Vm;
+use std::io;
+use std::io::Write;
 use text::{put_byte, put_decimal, put_hex};
 
 fn entry_digest(h: u32, entry: TlbEntry) -> u32 {
@@ -51,10 +53,11 @@ fn put_line(out: &mut [u8], a: Answer) -> usize {
     put_state(out, next, a.vm)
 }
 
-pub fn show(a: Answer) {
+pub fn show<W: Write>(to: &mut W, a: Answer) -> io::Result<()> {
     let mut out = [0u8; 128];
     let end = put_line(&mut out, a);
     if end <= 128 {
-        io::write_all(1, &out[..end]);
+        return to.write_all(&out[..end]);
     }
+    Ok(())
 }

@@ -1,6 +1,8 @@
 // The text of an answer.
 use crate::answer::Answer;
 use privilege::state::SystemState;
+use std::io;
+use std::io::Write;
 use text::{put_byte, put_decimal, put_hex};
 
 // A blank and a number.
@@ -35,10 +37,11 @@ fn put_line(out: &mut [u8], a: Answer, witness: u32) -> usize {
     put_byte(out, end, b'\n')
 }
 
-pub fn show(a: Answer, witness: u32) {
+pub fn show<W: Write>(to: &mut W, a: Answer, witness: u32) -> io::Result<()> {
     let mut out = [0u8; 128];
     let end = put_line(&mut out, a, witness);
     if end <= 128 {
-        io::write_all(1, &out[..end]);
+        return to.write_all(&out[..end]);
     }
+    Ok(())
 }

@@ -14,11 +14,14 @@ mod operate;
 mod registers;
 mod witness;
 
+use input::read_full;
 use privilege::state::SystemState;
 use script::header::{Header, Script, copy_image, event_place, header_of};
+use std::io;
+use std::io::Write;
 
 // The memory, as long as the image, becomes the image; then each event in order.
-fn replay(script: &[u8], h: Header, mem: &mut [u8]) {
+fn replay<W: Write>(to: &mut W, script: &[u8], h: Header, mem: &mut [u8]) -> io::Result<()> {
     copy_image(script, h.image_at as usize, mem);
     let mut sys = SystemState::new();
     let mut reg = [0u32; 32];
@@ -26,29 +29,31 @@ fn replay(script: &[u8], h: Header, mem: &mut [u8]) {
     while k < h.events {
         let e = script::event_at(script, event_place(h, k));
         let answer = operate::step(sys, reg, mem, h.base, e);
-        line::show(answer, witness::witness(answer, mem));
+        line::show(to, answer, witness::witness(answer, mem))?;
         let after = answer.sys;
         let live = answer.reg;
         sys = after;
         reg = live;
         k += 1;
     }
+    Ok(())
 }
 
 fn empty_memory() -> [u8; 32768] {
     [0u8; 32768]
 }
 
-fn main() {
-    let mut input = io::large_buffer();
-    let n = io::read_full(0, &mut input);
+fn main(rt: HostRuntime) -> io::Result<()> {
+    let mut input = [0u8; 65536];
+    let n = read_full(&mut rt.stdin(), &mut input)?;
     let read = header_of(&input[..n]);
     let Script::Good(h) = read else {
-        return;
+        return Ok(());
     };
     let length = h.image as usize;
     if length <= 32768 {
         let mut mem = empty_memory();
-        replay(&input[..n], h, &mut mem[..length]);
+        return replay(&mut rt.stdout(), &input[..n], h, &mut mem[..length]);
     }
+    Ok(())
 }
