@@ -1,5 +1,6 @@
 """tools/contracts refuses a statement that says less than its function's contract, or is of another's."""
 from pathlib import Path
+import re
 import shutil
 import subprocess
 import tempfile
@@ -22,8 +23,8 @@ def copied(folder):
     """What the tool reads, copied: itself, the document, every crate's source and edits, and the statements."""
     unread = shutil.ignore_patterns("proofs", "stdin", "stdout", "data")
     shutil.copytree(ROOT / "crates", folder / "crates", ignore=unread)
-    for name in ("tools/contracts", "docs/CONTRACTS.md"):
-        (folder / name).parent.mkdir()
+    for name in ("crates.txt", "tools/contracts", "docs/CONTRACTS.md"):
+        (folder / name).parent.mkdir(exist_ok=True)
         shutil.copy(ROOT / name, folder / name)
     return folder
 
@@ -89,6 +90,23 @@ class Contracts(unittest.TestCase):
         self.refuses("docs/CONTRACTS.md", "| `cache::flat::load`, `cache::flat::fetch`, `cache::flat::store`, `cache::flat::external_write`,",
                      "| `cache::flat::fetch`, `cache::flat::store`, `cache::flat::external_write`,",
                      "cache::flat::load is `SettledAs`, and docs/CONTRACTS.md does not tell what that leaves open")
+
+    def test_exports_of_a_static_library(self):
+        library = self.tree / "crates" / "digest_c" / "src" / "lib.rt"
+        library.parent.mkdir(parents=True)
+        self.addCleanup(shutil.rmtree, library.parent.parent)
+        listed = (self.tree / "crates.txt").read_text()
+        self.addCleanup((self.tree / "crates.txt").write_text, listed)
+        (self.tree / "crates.txt").write_text(f"{listed}digest_c staticlib: digest\n")
+        text = (ROOT / "crates" / "digest" / "src" / "lib.rt").read_text()
+        self.assertIn("pub fn fnv_byte", text)
+        library.write_text(text)
+        self.assertEqual(self.said(), (0, []))
+        clause = re.search(r"pub fn fnv_byte.*?ensures \{ (.*?) \}", text, re.S).group(1)
+        library.write_text(text.replace(clause, "result ≡ result", 1))
+        self.assertEqual(self.said(), (1, ["digest_c::fnv_byte does not say what digest::fnv_byte says"]))
+        library.write_text(text.replace("pub fn fnv_byte", "pub fn fnv_half"))
+        self.assertEqual(self.said(), (1, ["digest_c::fnv_half has no function of that name in digest"]))
 
 
 if __name__ == "__main__":
