@@ -14,7 +14,7 @@ NAMES = ("runner", "inspect")
 COMMAND = ("rt", "run")
 FIRST = "rehearse: building once with `rt run` in crates/runner and crates/inspect, which proves the machine and compiles it:"
 AGAIN = "rehearse: what the programs are made of has changed; building again with `rt run` in crates/runner and crates/inspect:"
-TIME = "          some minutes; a quarter of an hour or more where nothing of it was proved before"
+TIME = "          many minutes where nothing of it was proved before"
 PATIENCE = 20.0
 PAUSE = 0.1
 
