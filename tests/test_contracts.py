@@ -1,4 +1,4 @@
-"""tools/contracts refuses a statement that says less than its function's contract, or is of another's."""
+"""tools/contracts refuses a statement that says less than its function's contract, or is of another's, and an export that is not its library's."""
 from pathlib import Path
 import shutil
 import subprocess
@@ -19,12 +19,13 @@ WHOLE = "(machine.run.list_whole.clauses 𝓛 mem run κs a).ensures tt r e) (r_
 
 
 def copied(folder):
-    """What the tool reads, copied: itself, the document, every crate's source and edits, and the statements."""
-    unread = shutil.ignore_patterns("proofs", "stdin", "stdout", "data")
+    """What the tool reads, copied: itself, the document, the list of crates, every crate's source and edits, and the statements."""
+    unread = shutil.ignore_patterns("proofs", "stdin", "stdout", "data", "out")
     shutil.copytree(ROOT / "crates", folder / "crates", ignore=unread)
     for name in ("tools/contracts", "docs/CONTRACTS.md"):
         (folder / name).parent.mkdir()
         shutil.copy(ROOT / name, folder / name)
+    shutil.copy(ROOT / "crates.txt", folder)
     return folder
 
 
@@ -89,6 +90,27 @@ class Contracts(unittest.TestCase):
         self.refuses("docs/CONTRACTS.md", "| `cache::flat::load`, `cache::flat::fetch`, `cache::flat::store`, `cache::flat::external_write`,",
                      "| `cache::flat::fetch`, `cache::flat::store`, `cache::flat::external_write`,",
                      "cache::flat::load is `SettledAs`, and docs/CONTRACTS.md does not tell what that leaves open")
+
+    def test_an_export_with_another_contract(self):
+        self.refuses("crates/irqc_c/src/lib.rt", "result ≡ c.now.enable", "result ≡ c.now.pending",
+                     "irqc_lent_enable_mask is exported by irqc_c with another signature or contract than its library's")
+
+    def test_an_export_with_another_signature(self):
+        self.refuses("crates/bridge_c/src/cache_calls.rt", "cache_new(ram_start: u32, ram_size: u32)", "cache_new(ram_size: u32, ram_start: u32)",
+                     "cache_new is exported by bridge_c with another signature or contract than its library's")
+
+    def test_an_export_with_words_from_elsewhere(self):
+        self.refuses("crates/race_c/src/lib.rt", "ghost use Rattle.machine.specs.State.{new_machine}", "ghost use Rattle.race_c.specs.Race.{new_machine}",
+                     "race_run is exported by race_c with words from elsewhere than its library's")
+
+    def test_an_export_that_is_gone(self):
+        self.refuses("crates/tables_c/src/lib.rt", "fn tables_write(", "fn write_tables(", "tables_write is not exported by tables_c",
+                     "write_tables is exported by tables_c, and its library has no such export")
+
+    def test_a_static_library_that_is_gone(self):
+        self.refuses("crates.txt", "race_c staticlib:", "race_c:", "race_c::race_run is not settled in crates/contracts",
+                     "race_c::race_run has no row in docs/CONTRACTS.md", "race_run has a C name, and no static library exports it",
+                     "race_run has a C name, and no static library exports it")
 
 
 if __name__ == "__main__":
