@@ -1,4 +1,4 @@
-"""tools/contracts refuses a statement that says less than its function's contract, or is of another's."""
+"""tools/contracts refuses a statement that says less than its function's contract, or is of another's, and an export that is not its library's."""
 from pathlib import Path
 import re
 import shutil
@@ -21,7 +21,7 @@ WHOLE = "(machine.run.list_whole.clauses 𝓛 mem run κs a).ensures tt r e) (r_
 
 def copied(folder):
     """What the tool reads, copied: itself, the document, every crate's source and edits, and the statements."""
-    unread = shutil.ignore_patterns("proofs", "stdin", "stdout", "data")
+    unread = shutil.ignore_patterns("proofs", "stdin", "stdout", "data", "out")
     shutil.copytree(ROOT / "crates", folder / "crates", ignore=unread)
     for name in ("crates.txt", "tools/contracts", "docs/CONTRACTS.md"):
         (folder / name).parent.mkdir(exist_ok=True)
@@ -107,6 +107,22 @@ class Contracts(unittest.TestCase):
         self.assertEqual(self.said(), (1, ["digest_c::fnv_byte does not say what digest::fnv_byte says"]))
         library.write_text(text.replace("pub fn fnv_byte", "pub fn fnv_half"))
         self.assertEqual(self.said(), (1, ["digest_c::fnv_half has no function of that name in digest"]))
+
+    def test_an_export_with_another_contract(self):
+        self.refuses("crates/irqc_c/src/lib.rt", "result ≡ c.now.enable", "result ≡ c.now.pending",
+                     "irqc_c::irqc_lent_enable_mask does not say what irqc::lent::irqc_lent_enable_mask says")
+
+    def test_an_export_with_another_signature_in_a_file_that_is_not_public(self):
+        self.refuses("crates/bridge_c/src/cache_calls.rt", "cache_new(ram_start: u32, ram_size: u32)", "cache_new(ram_size: u32, ram_start: u32)",
+                     "bridge_c::cache_calls::cache_new does not say what bridge::cache_calls::cache_new says")
+
+    def test_an_export_with_words_from_elsewhere(self):
+        self.refuses("crates/race_c/src/lib.rt", "ghost use Rattle.machine.specs.State.{new_machine}", "ghost use Rattle.race_c.specs.Race.{new_machine}",
+                     "race_c::race_run has words from elsewhere than race::race_run")
+
+    def test_a_function_that_is_not_exported(self):
+        self.refuses("crates/tables_c/src/lib.rt", '#[unsafe(no_mangle)]\n', "",
+                     "tables::export::tables_write has a C name, and tables_c does not export it")
 
 
 if __name__ == "__main__":
