@@ -103,7 +103,7 @@ const LINKED: [(&str, &str); 4] = [
     ("race", "race"),
 ];
 
-/// The port's static libraries are made by `rt staticlib NAME` below the repository's target folder,
+/// The port's static libraries are made by `tools/staticlib NAME` below the repository's target folder,
 /// or stand in the folder that PORT names.
 fn link_port(home: &Path) {
     println!("cargo:rerun-if-env-changed=PORT");
@@ -115,7 +115,7 @@ fn link_port(home: &Path) {
         println!("cargo:rerun-if-changed={}", library.display());
         if !library.exists() {
             println!(
-                "cargo:warning={program} wants target/staticlib/lib{name}.a: rt staticlib {name} makes it"
+                "cargo:warning={program} wants target/staticlib/lib{name}.a: tools/staticlib {name} makes it"
             );
         }
         let linked = if name == "race" && library.exists() {

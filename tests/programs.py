@@ -1,15 +1,16 @@
 """The program `runner` as it is given its input: at the edges of a script's length, refused, whole, in pieces, and where reading or
-writing fails. It needs the built program, so the gate runs it behind `rt ci`:
+writing fails. It needs the built program, and builds it where that is needed, so the gate runs it behind `rt ci`:
 
     python3 -m unittest tests.programs
 """
-from pathlib import Path
 import struct
 import subprocess
 import tempfile
 import unittest
 
-RUNNER = Path(__file__).resolve().parent.parent / "target" / "bin" / "runner"
+from rehearsal.machine.build import build, program
+
+RUNNER = program("runner")
 HEADER, EVENT = 24, 12
 LONGEST, MOST = 61440, 2048
 OUTPUT, NO_KIND = 14, 16
@@ -24,6 +25,10 @@ def script(events=0, events_at=HEADER, image=0, image_at=HEADER, base=0, penalty
 
 def run(given):
     return subprocess.run([RUNNER], input=given, capture_output=True, timeout=60)
+
+
+def setUpModule():
+    build()
 
 
 class Runner(unittest.TestCase):

@@ -37,7 +37,7 @@ class Builds(unittest.TestCase):
 
     def test_without_the_kit(self):
         self.assertEqual(self.build("no-such-kit", there=True), ("", None))
-        self.assertIn("target/bin/runner is missing", self.build("no-such-kit", there=False)[1])
+        self.assertIn("crates/runner/out/runner is missing", self.build("no-such-kit", there=False)[1])
 
 
 class Streams(unittest.TestCase):

@@ -1,6 +1,6 @@
 //! A controller that Rust owns and lends to the port, beside the published one: a million random
-//! operations, compared after each. Needs the static libraries that `rt staticlib irqc`, `bridge`, `tables`
-//! and `race` make, since cargo builds the binaries with it:
+//! operations, compared after each. Needs the static libraries that `tools/staticlib irqc bridge tables race`
+//! makes, since cargo builds the binaries with it:
 //!
 //!     cargo test --release --features port --test lent
 

@@ -10,10 +10,11 @@ from rehearsal.machine.progress import Progress
 
 ROOT = Path(__file__).resolve().parents[2]
 NAMES = ("runner", "inspect")
-COMMAND = ("rt", "check", *NAMES)
-FIRST = "rehearse: building once with `rt check runner inspect`, which proves the machine and compiles it:"
-AGAIN = "rehearse: what the programs are made of has changed; building again with `rt check runner inspect`:"
-TIME = "          five to eight minutes on two cores"
+# In a program's folder it proves and compiles what has changed, and then runs the program, here on no input.
+COMMAND = ("rt", "run")
+FIRST = "rehearse: building once with `rt run` in crates/runner and crates/inspect, which proves the machine and compiles it:"
+AGAIN = "rehearse: what the programs are made of has changed; building again with `rt run` in crates/runner and crates/inspect:"
+TIME = "          many minutes where nothing of it was proved before"
 PATIENCE = 20.0
 PAUSE = 0.1
 
@@ -23,7 +24,7 @@ class CannotRun(Exception):
 
 
 def program(name):
-    return ROOT / "target" / "bin" / name
+    return ROOT / "crates" / name / "out" / name
 
 
 def missing():
@@ -35,21 +36,27 @@ def build():
     if shutil.which(COMMAND[0]):
         Build().run()
     if missing():
-        raise CannotRun(f"target/bin/{missing()[0]} is missing, and it takes the Rattle kit (`rt`) to build it")
+        lacking = missing()[0]
+        raise CannotRun(f"crates/{lacking}/out/{lacking} is missing, and it takes the Rattle kit (`rt`) to build it")
 
 
 class Build:
-    """One run of the kit. It says so at once if a program is missing, else if it takes more than a moment."""
+    """A run of the kit for each program. It says so at once if a program is missing, else if it takes more than a moment."""
 
     def __init__(self):
         self.said = []
         self.progress = Progress()
         self.text, self.patience = (FIRST, 0) if missing() else (AGAIN, PATIENCE)
         self.noticed = False
+        self.start = time.monotonic()
 
     def run(self):
-        output = {"stdout": subprocess.PIPE, "stderr": subprocess.STDOUT, "text": True}
-        with subprocess.Popen(COMMAND, cwd=ROOT, **output) as process:
+        for name in NAMES:
+            self.run_one(ROOT / "crates" / name)
+
+    def run_one(self, folder):
+        pipes = {"stdin": subprocess.DEVNULL, "stdout": subprocess.PIPE, "stderr": subprocess.STDOUT, "text": True}
+        with subprocess.Popen(COMMAND, cwd=folder, **pipes) as process:
             reader = threading.Thread(target=lambda: self.said.extend(process.stdout))
             reader.start()
             self.wait(process)
@@ -58,11 +65,10 @@ class Build:
             raise CannotRun("the programs cannot be built:\n" + "".join(self.said[-20:]).rstrip())
 
     def wait(self, process):
-        start = time.monotonic()
         while process.poll() is None:
-            elapsed = time.monotonic() - start
+            elapsed = time.monotonic() - self.start
             self.notice(elapsed)
-            self.progress.show(f"  {elapsed:.0f} s, {self.proved()} crates proved")
+            self.progress.show(f"  {elapsed:.0f} s, {self.proved()} functions proved")
             time.sleep(PAUSE)
         self.progress.clear()
 
@@ -73,4 +79,4 @@ class Build:
             self.noticed = True
 
     def proved(self):
-        return sum(" proved (" in line for line in self.said)
+        return sum(line.startswith("fn ") and line.rstrip().endswith(": proved") for line in self.said)

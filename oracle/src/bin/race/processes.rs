@@ -48,9 +48,11 @@ impl Programs {
     /// Or what is missing, and what makes it.
     fn find() -> Result<Self, String> {
         let here = Path::new(env!("CARGO_MANIFEST_DIR"));
-        let runner = here.join("../target/bin/runner");
+        let runner = here.join("../crates/runner/out/runner");
         if !runner.is_file() {
-            return Err("target/bin/runner is not built: rt check runner".to_string());
+            return Err(
+                "crates/runner/out/runner is not built: rt run in crates/runner".to_string(),
+            );
         }
         let oracle = env::current_exe()
             .map_err(|error| format!("where this program stands is not known: {error}"))?

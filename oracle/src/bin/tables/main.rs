@@ -10,7 +10,7 @@ use std::env;
 use std::process::ExitCode;
 
 const HELP: &str = "\
-Page tables written by the port (rt staticlib tables).
+Page tables written by the port (tools/staticlib tables).
 
   tables compare [SEED [COUNT]]   random lists beside a model, and the published walk over what was written
   tables show FIRST < LIST        the tables of a list, from the frame at FIRST (hexadecimal) on
