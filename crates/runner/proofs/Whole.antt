@@ -1,5 +1,5 @@
 -- An input that is longer than the buffer has the listing of its front: both are refused. Assumes nothing.
-use Rattle.std.specs.Prelude.{◌≡◌, ℕ, ◌<◌, ◌≤◌, Bool, true, false, ◌&&◌, List, length, take, None, Some, IfSome, refl}
+use Rattle.std.specs.Prelude.{◌≡◌, ℕ, ◌<◌, Bool, true, false, ◌&&◌, List, length, take, None, Some, IfSome, refl}
 use Rattle.std.proofs.Common.{inl, inr, sym, ◌∙◌, ap, subst, arith, nat_le}
 use Rattle.std.specs.declared.option.Option.{Option}
 use borrow.Author.Tests.{lt-leb}
