@@ -1,4 +1,4 @@
-// The port as a static library, for Rust to call: each function is the part's own, under a C name and by value.
+// The port for Rust to call, by the static library bridge_c: each function is the part's own, under a C name and by value.
 #![tactic(auto)]
 
 pub mod cache_calls;

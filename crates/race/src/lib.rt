@@ -1,5 +1,5 @@
-// A whole race under a C name: any number of events in one call. It is a static library of its own: there the machine's loop has this one
-// caller, and the compiler makes it for a run that writes no lines.
+// A whole race under a C name: any number of events in one call. It has a static library of its own, race_c: there the machine's loop has this
+// one caller, and the compiler makes it for a run that writes no lines.
 #![tactic(auto)]
 
 ghost use Rattle.std.specs.Prelude.{◌≡◌, ◌%◌, ◌^◌, length};

@@ -1,4 +1,4 @@
-// `race` under C names: a static library over the library, whose exports ask its functions and state their clauses again.
+// `race` under C names, as a static library: each export asks the library's function of its name and states that function's clauses again.
 #![tactic(auto)]
 
 ghost use Rattle.std.specs.Prelude.{◌≡◌, ◌%◌, ◌^◌, length};
