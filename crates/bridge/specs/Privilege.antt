@@ -1,7 +1,7 @@
 -- The privilege state and R0 to R31 as C has them: an enum does not cross, nor does an array of structs.
 --
 --   regions_of starts ends flags   == the eight regions that the numbers of three lists make
---   starts_of, ends_of, flags_of l   == START, END and FLAGS of eight regions
+--   starts_of, ends_of, flags_of l == START, END and FLAGS of eight regions
 --   state_of p                     == the privilege state that has crossed
 --   state_numbers s reg            == a privilege state and the registers, ready to cross
 --   translated_numbers t           == a debugger's translation

@@ -1,18 +1,18 @@
 -- One bank of the L1 tag cache, document 01 'L1 tag cache', from src/cpu_cache.rs, `Bank`.
 --
---   line_of pa, line_stop end   == the line that holds an address; the first line that does not start below `end`
---   index_of pa, tag_of pa      == where in a bank an address belongs, and its tag there: `index_tag`
---   no_tag, no_tags             == the mark of an empty line, and an empty bank's tags: `INVALID`
---   new_bank                   == empty and enabled, no counts: `new`
---   holds b pa                == the bank holds the line of an address
---   accessed b pa             == a hit is counted; a miss is counted and allocates: `access`
---   line_dropped b pa          == the line of an address is dropped if it is held: `invalidate_line`
---   emptied b                 == every line is dropped: `invalidate_all`
---   enabled_to b on            == the enable bit is set; its change empties the bank: `set_enabled`
---   stats_cleared b            == no counts: `clear_stats`
---   controlled b on drop clr  == the enable bit, then the two strobes: a bank's part of `write_reg`
---   swept b k stop, swept_tags == the indexes of lines k to stop - 1 are dropped: a bank's part of `external_write`
---   visited k stop            == how many of those lines a sweep visits (W-204)
+--   line_of pa, line_stop end                                   == the line that holds an address; the first line that does not start below `end`
+--   index_of pa, tag_of pa                                      == where in a bank an address belongs, and its tag there: `index_tag`
+--   no_tag, no_tags                                             == the mark of an empty line, and an empty bank's tags: `INVALID`
+--   new_bank                                                    == empty and enabled, no counts: `new`
+--   holds b pa                                                  == the bank holds the line of an address
+--   accessed b pa                                               == a hit is counted; a miss is counted and allocates: `access`
+--   line_dropped b pa                                           == the line of an address is dropped if it is held: `invalidate_line`
+--   emptied b                                                   == every line is dropped: `invalidate_all`
+--   enabled_to b on                                             == the enable bit is set; its change empties the bank: `set_enabled`
+--   stats_cleared b                                             == no counts: `clear_stats`
+--   controlled b on drop clr                                    == the enable bit, then the two strobes: a bank's part of `write_reg`
+--   swept b k stop, swept_tags                                  == the indexes of lines k to stop - 1 are dropped: a bank's part of `external_write`
+--   visited k stop                                              == how many of those lines a sweep visits (W-204)
 --   with_tags, hit_counted, miss_counted, allocated, drop_lines == the single changes that these are made of
 --
 -- Choices that a reader may question. The two banks have the same size, so the Rust's `size_shift` is left out. A sweep

@@ -1,23 +1,23 @@
 -- The L1 tag cache, document 01 'L1 tag cache', from src/cpu_cache.rs, `L1Cache` and its byte lanes.
 --
---   Side, bank_of s c            == the instruction bank or the data bank, and it in a cache
---   with_banks c i d             == the same range and penalty with other banks
---   saturated a b               == a + b, at most 0xFFFFFFFF: `saturating_add`
---   new_cache start size         == two new banks over a range: `new`
---   range_has, cacheable_at c pa  == an address in [start, end): `cacheable`
---   reset_of c, both_cleared c    == two new banks; no counts in either bank: `reset`, `clear_stats`
---   counts c b pa               == an access to bank b reaches it: enabled, and the address cacheable
---   bank_after c b pa            == bank b after an access
---   stall_after, cost_of          == what the access costs
---   fetched c pa, loaded c pa   == the instruction bank's access, the data bank's: `fetch`, `load`
---   stored c pa                 == the matching instruction line goes: `store`
---   external_written c pa len    == another master wrote [pa, pa + len): `external_write`
---   lines_visited pa len         == how many lines of each bank that visits (W-204)
---   enable_bits, ctrl_word c      == the two enable bits: `ctrl`
+--   Side, bank_of s c                  == the instruction bank or the data bank, and it in a cache
+--   with_banks c i d                   == the same range and penalty with other banks
+--   saturated a b                      == a + b, at most 0xFFFFFFFF: `saturating_add`
+--   new_cache start size               == two new banks over a range: `new`
+--   range_has, cacheable_at c pa       == an address in [start, end): `cacheable`
+--   reset_of c, both_cleared c         == two new banks; no counts in either bank: `reset`, `clear_stats`
+--   counts c b pa                      == an access to bank b reaches it: enabled, and the address cacheable
+--   bank_after c b pa                  == bank b after an access
+--   stall_after, cost_of               == what the access costs
+--   fetched c pa, loaded c pa          == the instruction bank's access, the data bank's: `fetch`, `load`
+--   stored c pa                        == the matching instruction line goes: `store`
+--   external_written c pa len          == another master wrote [pa, pa + len): `external_write`
+--   lines_visited pa len               == how many lines of each bank that visits (W-204)
+--   enable_bits, ctrl_word c           == the two enable bits: `ctrl`
 --   register_at, reg_read, reg_written == a register: `read_reg`, `write_reg`
---   word_of, lane_shift addr      == the register of a byte, and how far up the byte stands in it: `lane`
---   lane_of, merged, with_byte    == that byte of a word, and the word with it replaced
---   byte_read, byte_written       == one byte of a register, high byte first: `read`, `write` of `CacheRegisterDevice`
+--   word_of, lane_shift addr           == the register of a byte, and how far up the byte stands in it: `lane`
+--   lane_of, merged, with_byte         == that byte of a word, and the word with it replaced
+--   byte_read, byte_written            == one byte of a register, high byte first: `read`, `write` of `CacheRegisterDevice`
 --
 -- Choices that a reader may question. What a load and a fetch have in common is said once, of a bank (`counts`,
 -- `bank_after`, `stall_after`). The byte lanes are written by `/` and `%`, so that they compute; the code has the Rust's masks.

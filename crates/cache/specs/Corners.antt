@@ -1,6 +1,6 @@
 -- The figures of document 01 'L1 tag cache', each computed from the definitions. Corner P11 is in the crate `cases`.
 --
---   a_bank, a_cache   == a bank with counts, and a cache of two such over [start, start + size) with a penalty
+--   a_bank, a_cache == a bank with counts, and a cache of two such over [start, start + size) with a penalty
 --   Corners         == the figures, one field each
 use Rattle.std.specs.Prelude.{◌≡◌, ℕ, ◌+◌, Bool, true, false, slice_set}
 use Rattle.cache.specs.Bank.{no_tag, no_tags, new_bank, with_tags, hit_counted, miss_counted, emptied}

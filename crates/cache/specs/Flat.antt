@@ -1,12 +1,12 @@
 -- The cache as words that an owner lends. What each function does is the by-value definition over what the words stand for.
 --
---   tag_word, bank_words     == where in a bank its tags start, and how many words it has
+--   tag_word, bank_words        == where in a bank its tags start, and how many words it has
 --   i_word, d_word, cache_words == where in a cache its banks start, and how many words it has
---   bank_at l               == the bank of words: enable bit, hits, misses, tags
---   cache_at l              == the cache of words: range, penalty, instruction bank, data bank
---   Touches b p pa after n == an access to bank b at a cacheable address takes it to `after` and costs n, where a miss costs p
---   Costs l l' n a         == a load or fetch takes the words l to l' and costs n, as the access a does
---   Changes l l' c         == the words l' stand for c
+--   bank_at l                   == the bank of words: enable bit, hits, misses, tags
+--   cache_at l                  == the cache of words: range, penalty, instruction bank, data bank
+--   Touches b p pa after n      == an access to bank b at a cacheable address takes it to `after` and costs n, where a miss costs p
+--   Costs l l' n a              == a load or fetch takes the words l to l' and costs n, as the access a does
+--   Changes l l' c              == the words l' stand for c
 use Rattle.std.specs.Prelude.{◌≡◌, ℕ, ◌+◌, cond, List}
 use Rattle.layout.specs.Words.{part, word_at, on_at, Over}
 use Rattle.cache.specs.Bank.{accessed}

@@ -1,9 +1,9 @@
 -- What the cache's definitions mean, line by line: document 01's sentences on the L1 tag cache as laws.
 --
---   Lines b      == a bank of 256 lines, as every bank is
---   tag_at b j    == the tag at an index
+--   Lines b                            == a bank of 256 lines, as every bank is
+--   tag_at b j                         == the tag at an index
 --   is_register offset, enable_bit s v == the offset has a register; a bank's enable bit in the control register's value
---   Meaning      == the laws, one field a sentence
+--   Meaning                            == the laws, one field a sentence
 --
 -- What holds of both banks is said of a bank b, or of either side s. A load or fetch is the same law of its bank.
 use Rattle.std.specs.Prelude.{◌≡◌, ℕ, ◌+◌, ◌*◌, ◌/◌, ◌%◌, ◌^◌, ◌<◌, ◌≤◌, Bool, true, false, cond, ◌&&◌, ◌||◌, length, ◌==◌, ◌≢◌, slice_index}

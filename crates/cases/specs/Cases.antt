@@ -1,15 +1,15 @@
 -- Document 01's corner table, the cases marked P, in its order and words, each for every state that its row leaves open.
 --
---   Unknown sr                        == register sr is unknown: in every state a read and a write are refused, and nothing moves
---   Eight s                           == eight regions, as every state has
---   Decided m s                       == the regions decide: a user, translation off, over a good map
---   Holds s n start end flags         == region n of the state is this one
---   NoOther s n a k                   == no other region than n grants the access
---   IsAllowed, IsDenied m s a n k     == the check's whole answer: the state stays, no table word was read
---   Leads m ptbr va w                 == a walk for va comes to w as its second word
---   resident va ppn flags             == the entry of va's page
---   controller pending enable level   == a controller with these words
---   shown_by, none                     == an output with this number, and no output
+--   Unknown sr                      == register sr is unknown: in every state a read and a write are refused, and nothing moves
+--   Eight s                         == eight regions, as every state has
+--   Decided m s                     == the regions decide: a user, translation off, over a good map
+--   Holds s n start end flags       == region n of the state is this one
+--   NoOther s n a k                 == no other region than n grants the access
+--   IsAllowed, IsDenied m s a n k   == the check's whole answer: the state stays, no table word was read
+--   Leads m ptbr va w               == a walk for va comes to w as its second word
+--   resident va ppn flags           == the entry of va's page
+--   controller pending enable level == a controller with these words
+--   shown_by, none                  == an output with this number, and no output
 use Rattle.std.specs.Prelude.{ℕ, ◌/◌, ◌≡◌, true, false, List, length, get_or}
 use Rattle.cache.specs.Cache.{external_written}
 use Rattle.cache.specs.Corners.{drops}

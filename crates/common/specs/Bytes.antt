@@ -1,8 +1,8 @@
 -- Numbers as bytes, high byte first.
 --
---   big_endian l      == the number whose bytes are l
---   bytes_of n v      == the lowest n bytes of v
---   bytes_four       == the four bytes of a word
+--   big_endian l == the number whose bytes are l
+--   bytes_of n v == the lowest n bytes of v
+--   bytes_four   == the four bytes of a word
 use Rattle.std.specs.Prelude.{ℕ, zero, suc, ◌+◌, ◌*◌, ◌/◌, ◌%◌, ◌^◌, ◌<◌, ◌≡◌, List, [], ◌∷◌}
 use Rattle.std.proofs.Common.{div-one, arith}
 

@@ -1,11 +1,11 @@
 -- Reasoning by the cases of a test.
 --
---   bool_is        == a Bool is true or false
---   cond_holds     == what holds of both branches holds of the choice
---   cond_case      == the same, where each branch may use what the test said
---   lt_or_ge       == of two numbers the first is smaller, or it is not
+--   bool_is                        == a Bool is true or false
+--   cond_holds                     == what holds of both branches holds of the choice
+--   cond_case                      == the same, where each branch may use what the test said
+--   lt_or_ge                       == of two numbers the first is smaller, or it is not
 --   and_left, and_right, and_false == what a conjunction says of its parts
---   absurd_eq      == two constructors that are equal prove anything: `cc` finds `0 ≡ 1`
+--   absurd_eq                      == two constructors that are equal prove anything: `cc` finds `0 ≡ 1`
 use Rattle.std.specs.Prelude.{ℕ, ◌<◌, ◌≤◌, ◌≡◌, refl, Bool, true, false, cond, ◌&&◌, ◌⊎◌, ltb}
 use Rattle.std.proofs.Common.{inl, inr, ⊎_elim, arith, ltb-true, ltb-false}
 

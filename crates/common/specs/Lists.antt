@@ -1,10 +1,10 @@
 -- Laws of lists that the kit's libraries do not have.
 --
---   map_to f n l        == the first n elements mapped, the others as they were: what a loop that maps an array in place has done
---   map_to_one         == a list whose every element is mapped to x is as many x
---   over_to n l z       == the first n elements of l over those of z: what a loop that copies into an array has done
---   Each P l           == every number of the list has the property
---   mapped_length      == the length of an array that is a struct's field: owning the struct tells it of the mapped list
+--   map_to f n l  == the first n elements mapped, the others as they were: what a loop that maps an array in place has done
+--   map_to_one    == a list whose every element is mapped to x is as many x
+--   over_to n l z == the first n elements of l over those of z: what a loop that copies into an array has done
+--   Each P l      == every number of the list has the property
+--   mapped_length == the length of an array that is a struct's field: owning the struct tells it of the mapped list
 use Prim.Native.Nat.{ℕ, zero, suc, ◌+◌, ◌≤◌, ◌<◌}
 use Rattle.std.specs.Prelude.{◌≡◌, length, get_or, set, replicate}
 use Rattle.std.proofs.Math.Path.{refl, ap}

@@ -1,11 +1,11 @@
 -- Contracts over lent words: two outcomes of one `Over` stand for the same, by the equation that it has of each.
 --
---   same_words       == by what an `Over` says of both: where there are n words by P, else they stay and the answer is `none`
---   words, beside, memory == the same where the answer is all else; where memory was lent too, only to be read; where it was lent to be written
---   two, pair        == two parts of one value that both outcomes are equal to, and a pair by its parts
+--   same_words                                                == by what an `Over` says of both: where there are n words by P, else they stay and the answer is `none`
+--   words, beside, memory                                     == the same where the answer is all else; where memory was lent too, only to be read; where it was lent to be written
+--   two, pair                                                 == two parts of one value that both outcomes are equal to, and a pair by its parts
 --   pages_same, grants_same, access_same, step_same, run_same == what the check of pages, a grant, an access, an event and a run say of both
---   reads            == a contract that only reads admits one answer
---   open_words       == a flush leaves the words open: an entry without its valid bit has the word 0, and 2 too
+--   reads                                                     == a contract that only reads admits one answer
+--   open_words                                                == a flush leaves the words open: an entry without its valid bit has the word 0, and 2 too
 --
 -- An equation of each outcome with one thing makes the two outcomes equal; whether there are n words is decided, so the answer is equal either way. Assumes
 -- nothing.

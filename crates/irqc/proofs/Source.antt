@@ -1,11 +1,11 @@
 -- One source that is set: what becomes of each bit, and that a source goes by its own bits alone.
 --
---   rise, level_is, level_other   == the pending and the level bits of a controller whose source n is set
---   enable_is, fits               == its enable word, and that its words fit
---   Alike i c d                   == c and d have the same two bits of source i
---   own, others                   == setting a source goes by its own two bits, and leaves those of others
---   unmoved, kept, again          == a source that is set to the level that it has changes nothing
---   same                            == controllers that are alike at every source are equal
+--   rise, level_is, level_other == the pending and the level bits of a controller whose source n is set
+--   enable_is, fits             == its enable word, and that its words fit
+--   Alike i c d                 == c and d have the same two bits of source i
+--   own, others                 == setting a source goes by its own two bits, and leaves those of others
+--   unmoved, kept, again        == a source that is set to the level that it has changes nothing
+--   same                        == controllers that are alike at every source are equal
 -- Assumes nothing.
 use mathlib.Core.Path.{◌≡◌, refl, sym, ap, ap₂, ◌∙◌}
 use mathlib.Core.Logic.{⊎_elim}

@@ -1,9 +1,9 @@
 -- What the controller's definitions mean, source by source: document 01's sentences as laws of single bits.
 --
---   Word            == a word of sixteen bits
---   Controller      == a controller whose three words are such
---   has_register     == the address is that of one of the four register bytes
---   Meaning         == the laws, one field a sentence
+--   Word         == a word of sixteen bits
+--   Controller   == a controller whose three words are such
+--   has_register == the address is that of one of the four register bytes
+--   Meaning      == the laws, one field a sentence
 use Rattle.std.specs.Prelude.{ℕ, ◌+◌, ◌*◌, ◌<◌, ◌≤◌, ◌^◌, ◌≡◌, Bool, true, false, ◌&&◌, ◌||◌, not, eqb}
 use Rattle.common.specs.Bits.{bit_set, with_bit}
 use Rattle.irqc.specs.Irqc.{new_controller, source_set, levels_set, pending_cleared, active, output, output_of, byte_read, byte_written}

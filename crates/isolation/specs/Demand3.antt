@@ -1,14 +1,14 @@
 -- Demand 3: two runs of one sequence of a user's accesses.
 --
---   Answer                == what an access shows: value, bus error, exception or refusal; stall; walk reads
---   ran_ops os M m         == the accesses one after the other, each on what the one before it left
---   Keeps hidden m x      == the hidden bytes of x are those of m
---   Isolated              == "both runs give the same values, bus errors, exceptions, stalls and walk counts, reach the same TLB, cache and other
---                            bytes, and each keeps its own hidden bytes"; all other state is the same too
---   InPages               == the same of accesses that stay in their pages, aligned or not
---   Demand3               == the demand, which follows from it
---   Integrity             == a user's run changes no byte outside the pages that are open to it for writing
---   Confidentiality       == a user's run shows nothing of a byte that lies in no page open to it and in no table
+--   Answer           == what an access shows: value, bus error, exception or refusal; stall; walk reads
+--   ran_ops os M m   == the accesses one after the other, each on what the one before it left
+--   Keeps hidden m x == the hidden bytes of x are those of m
+--   Isolated         == "both runs give the same values, bus errors, exceptions, stalls and walk counts, reach the same TLB, cache and other
+--                       bytes, and each keeps its own hidden bytes"; all other state is the same too
+--   InPages          == the same of accesses that stay in their pages, aligned or not
+--   Demand3          == the demand, which follows from it
+--   Integrity        == a user's run changes no byte outside the pages that are open to it for writing
+--   Confidentiality  == a user's run shows nothing of a byte that lies in no page open to it and in no table
 use Rattle.std.specs.Prelude.{ℕ, ◌≡◌, Bool, true, List, [], ◌∷◌, ◌≢◌}
 use Rattle.memory.specs.Memory.{Memory, byte_at}
 use Rattle.memory.specs.Memory.Laws.{SameMap}

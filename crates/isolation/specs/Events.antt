@@ -1,11 +1,11 @@
 -- Demand 3 for runs of events, as a script's are: what `examples/two_loops` shows.
 --
---   op_of e                == the access that an event of kind 0 to 2 is
---   shown_as x             == the line of an access's answer
---   AllAccesses es        == every event is an aligned access
---   Entered hidden x x'   == two runs have come to one machine in user mode, over memories that differ in sealed hidden bytes alone
---   InRuns                == where first events print the same lines and come there, and the others are aligned accesses, all lines are the same
---   InScripts             == so two scripts whose images differ only in hidden bytes print the same listing
+--   op_of e             == the access that an event of kind 0 to 2 is
+--   shown_as x          == the line of an access's answer
+--   AllAccesses es      == every event is an aligned access
+--   Entered hidden x x' == two runs have come to one machine in user mode, over memories that differ in sealed hidden bytes alone
+--   InRuns              == where first events print the same lines and come there, and the others are aligned accesses, all lines are the same
+--   InScripts           == so two scripts whose images differ only in hidden bytes print the same listing
 use Rattle.std.specs.Prelude.{ℕ, ◌<◌, ◌≡◌, Bool, List, [], ◌∷◌, ◌++◌}
 use Rattle.listing.specs.declared.Line.{Line}
 use Rattle.memory.specs.Memory.{Memory}

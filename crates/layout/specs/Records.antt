@@ -1,8 +1,8 @@
 -- Records that lie one after the other in words, each of the same number of words.
 --
---   records_of f k n l   == the n records of the words l, each made by f of its k words
---   records_get         == record i of them is f of its own words
---   records_set         == a word set in record i sets that record and no other
+--   records_of f k n l == the n records of the words l, each made by f of its k words
+--   records_get        == record i of them is f of its own words
+--   records_set        == a word set in record i sets that record and no other
 use Prim.Native.Nat.{ℕ, zero, suc, ◌+◌, ◌*◌, ◌<◌}
 use Rattle.std.specs.Prelude.{◌≡◌, length, get_or, set, take}
 use Rattle.std.proofs.Math.Path.{refl, ap}

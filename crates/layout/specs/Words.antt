@@ -1,12 +1,12 @@
 -- A state as words: a list of numbers of 32 bits, of which parts stand for parts of the state.
 --
---   part a n l         == the n words from word a on
---   put a n l new      == the list with that part replaced, as a lent part comes back
+--   part a n l           == the n words from word a on
+--   put a n l new        == the list with that part replaced, as a lent part comes back
 --   word_at, on_at l k   == the number in a word, and the truth value in one
---   bit_word b          == the word of a truth value
+--   bit_word b           == the word of a truth value
 --   Over n l l' r none P == what a function over n lent words promises: it takes l to l' and answers r with P; where there are not n words they stay,
---                         and it answers `none`
---   Reads n l r none is == the same of one that only reads: it answers `is`
+--                           and it answers `none`
+--   Reads n l r none is  == the same of one that only reads: it answers `is`
 --
 -- A truth value has two words for each of its values and more; a number has one. So every content of the words has a meaning.
 use Rattle.std.specs.Prelude.{ℕ, ◌+◌, ◌-◌, ◌%◌, ◌≤◌, ◌<◌, ◌≡◌, refl, Bool, cond, List, ◌++◌, eqb, length, get_or, set, take, drop}

@@ -1,7 +1,7 @@
 -- Document 01's whole case and other lines, computed from the definitions.
 --
---   a_line letter digits stall reads     == a line; 86 is V, 88 X, 66 B, 78 N
---   Corners                             == the figures, one field each
+--   a_line letter digits stall reads == a line; 86 is V, 88 X, 66 B, 78 N
+--   Corners                          == the figures, one field each
 use Rattle.std.specs.Prelude.{ℕ, ◌≡◌, [], ◌∷◌}
 use Rattle.listing.specs.Listing.{ascii, line_text, refused_text, listing_text}
 use Rattle.listing.specs.declared.Line.{Line}

@@ -1,12 +1,12 @@
 -- The text of a run: document 01, 'Event script and its listing'.
 --
 --   line c d stall reads == what one event shows: its letter, digits, stall and walk reads
---   ascii t             == a text's bytes, one a character
---   newline             == the end of a line
---   spaced t            == the text after a blank
+--   ascii t              == a text's bytes, one a character
+--   newline              == the end of a line
+--   spaced t             == the text after a blank
 --   line_text i l        == the line of event i: "index, letter .., eight upper-case hex digits .., stall, walk reads, these and the index
---                          decimal"
---   numbered word n     == a line of a word and a number
+--                           decimal"
+--   numbered word n      == a line of a word and a number
 --   end_text n           == "Last, `end` and the count"
 --   refused_text n       == "A refused script prints only `refused` and its number"
 --   lines_from i ls      == the lines ls one after the other, the first with index i

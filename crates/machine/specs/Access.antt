@@ -1,14 +1,14 @@
 -- The combined access: document 01, "Combined access (added): check; the cache once, at the first byte's physical address; memory."
 --
---   Result                == what an access answers, and the memory that it leaves
---   looked_up c a n        == where an access's bytes are after its check c: each is looked up in the TLB again
---   lines_of l             == the addresses at which an access is presented to the cache whose bytes stand at l: the first byte's
---   presented k c pa      == the cache asked at one address: a load or fetch may cost its stall, a store snoops and costs 0
---   presented_each k c l   == the same at each of the addresses l, in their order; the stalls add up
+--   Result                      == what an access answers, and the memory that it leaves
+--   looked_up c a n             == where an access's bytes are after its check c: each is looked up in the TLB again
+--   lines_of l                  == the addresses at which an access is presented to the cache whose bytes stand at l: the first byte's
+--   presented k c pa            == the cache asked at one address: a load or fetch may cost its stall, a store snoops and costs 0
+--   presented_each k c l        == the same at each of the addresses l, in their order; the stalls add up
 --   read_outcome, write_outcome == the data's answer: a value, or a bus error and no value; a store answers 0
---   denied_with, refused_with == a denied or refused access: "A denied check touches neither"
---   moved k M m l n v reads == an allowed access whose n bytes stand at l: the cache, then memory
---   access_of k M m a n v  == the access k of n bytes at a, storing v: refusal 2, then 1
+--   denied_with, refused_with   == a denied or refused access: "A denied check touches neither"
+--   moved k M m l n v reads     == an allowed access whose n bytes stand at l: the cache, then memory
+--   access_of k M m a n v       == the access k of n bytes at a, storing v: refusal 2, then 1
 --
 -- Where an access's bytes are is one argument, a list of physical addresses: cache and memory see nothing else of an address.
 use Rattle.std.specs.Prelude.{ℕ, ◌+◌, Bool, true, false, List, [], ◌∷◌}

@@ -1,10 +1,10 @@
 -- One event's step: document 01, 'Event script and its listing', "Kinds".
 --
---   Step                  == what an event's step leaves of machine and memory, and the line that it shows
+--   Step                   == what an event's step leaves of machine and memory, and the line that it shows
 --   line_of outcome ..     == letter and digits: V value, X CAUSE, B 0, N the refusal's number; then stall and walk reads
---   showing v, refusing r == the line of an event that answers v and costs nothing, and of one that is refused
+--   showing v, refusing r  == the line of an event that answers v and costs nothing, and of one that is refused
 --   shows M v, refuses M r == a machine after such an event
---   access_kind, stored_by  == the access of kinds 0 to 2, and what it stores
+--   access_kind, stored_by == the access of kinds 0 to 2, and what it stores
 --   access_event M m e     == kinds 0 to 2: load a, store b at a, fetch a
 --   state_event M e        == kinds 3 to 15, which touch no memory; above 15 refusal 6
 --   step_of M m e          == any event

@@ -1,19 +1,19 @@
 -- The machine as 659 words that an owner lends, and what the functions over them promise: the by-value definitions, over what the words stand for.
 --
 --   cache_from, irqc_from, state_words == where the cache's and the controller's words start, and how many there are
---   irqc_at l, machine_at l  == the controller of three words, and the machine of all
---   Left l l' M            == the words l become l', as many, which stand for M
---   answer_of, no_answer     == an access's answer, and the one of a slice of another length
---   accessed_as r M         == the answer r with the machine M, as an access by value gives it
---   Asks l l' k pa r       == the cache is asked at pa and costs r
---   Permits l l' m a n k r == the check of an access leaves its state and permits r
---   ReadsPermitted, WritesPermitted == an access after its check: what it answers and leaves, if the check made this permit and this state
---   Grants l l' m a n k g  == the check of a word inside its page, over a good map, where it allows: as the permit of the grant g; elsewhere the machine stays
---   ReadsGranted, WritesGranted == a word that is granted, at any address inside its page: an access after its check
---   Accesses l l' k m a n v r bytes == a whole access: it answers r and leaves the memory's bytes
---   Shows l l' r s         == an event of the state alone comes to s
---   Steps l l' base bytes e r bytes' == any event: it shows the line r and leaves the memory's bytes
---   AccessesAny, StepsAny  == both over any number of words: where there are not as many as a machine has, nothing moves
+--   irqc_at l, machine_at l            == the controller of three words, and the machine of all
+--   Left l l' M                        == the words l become l', as many, which stand for M
+--   answer_of, no_answer               == an access's answer, and the one of a slice of another length
+--   accessed_as r M                    == the answer r with the machine M, as an access by value gives it
+--   Asks l l' k pa r                   == the cache is asked at pa and costs r
+--   Permits l l' m a n k r             == the check of an access leaves its state and permits r
+--   ReadsPermitted, WritesPermitted    == an access after its check: what it answers and leaves, if the check made this permit and this state
+--   Grants l l' m a n k g              == the check of a word inside its page, over a good map, where it allows: as the permit of the grant g; elsewhere the machine stays
+--   ReadsGranted, WritesGranted        == a word that is granted, at any address inside its page: an access after its check
+--   Accesses l l' k m a n v r bytes    == a whole access: it answers r and leaves the memory's bytes
+--   Shows l l' r s                     == an event of the state alone comes to s
+--   Steps l l' base bytes e r bytes'   == any event: it shows the line r and leaves the memory's bytes
+--   AccessesAny, StepsAny              == both over any number of words: where there are not as many as a machine has, nothing moves
 use Rattle.std.specs.Prelude.{◌≡◌, ℕ, ◌+◌, ◌%◌, ◌^◌, ◌<◌, ◌≤◌, true, false, List, length}
 use Rattle.cache.specs.Flat.{cache_words, cache_at}
 use Rattle.common.specs.declared.Refusal.TheVariants as refusal

@@ -1,9 +1,9 @@
 -- A run where the machine's words stand.
 --
---   no_run at       == what a slice of another length answers: no line, at the place where the listing would start
+--   no_run at                                           == what a slice of another length answers: no line, at the place where the listing would start
 --   Runs l l' base bytes s first n out at r bytes' out' == n events of the script s take the words l and the memory's bytes to l' and bytes'; the
---                     buffer has their listing from place `at` on, and r is where it ends and what its lines come to
---   RunsAny        == the same over any number of words
+--                                                          buffer has their listing from place `at` on, and r is where it ends and what its lines come to
+--   RunsAny                                             == the same over any number of words
 use Rattle.std.specs.Prelude.{◌≡◌, ℕ, List, ◌++◌}
 use Rattle.listing.specs.Listing.{lines_from, end_text}
 use Rattle.memory.specs.Memory.{lent}

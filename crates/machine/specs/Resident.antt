@@ -1,9 +1,9 @@
 -- The machine's TLB stays orderly through every event: change request W-209. Assumes nothing.
 --
---   Addressed es      == the events' addresses are 32-bit numbers, as those of every script are
+--   Addressed es         == the events' addresses are 32-bit numbers, as those of every script are
 --   new_tidy, reset_tidy == the TLB of a new machine and of one that was reset is orderly
 --   step_tidy, run_tidy  == it stays so through an event, and through a run of events
---   script_addressed  == a script's events are so
+--   script_addressed     == a script's events are so
 use Rattle.std.specs.Prelude.{ℕ, zero, suc, ◌+◌, ◌^◌, ◌<◌, List, [], ◌∷◌, ◌==◌, nat_lt}
 use Rattle.common.specs.Cases.{cond_holds}
 use Rattle.common.specs.Lists.{Each}

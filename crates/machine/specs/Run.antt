@@ -1,11 +1,11 @@
 -- A run: its events' steps, one after the other, and its listing. Document 01, 'Event script and its listing'.
 --
---   Run                   == what a run leaves of machine and memory, and the lines that it shows
---   run_over es M m        == the events es, each stepped on what the one before it left
---   run_from n s at M m    == the same of n events of the script s, the first at place `at`
+--   Run                                        == what a run leaves of machine and memory, and the lines that it shows
+--   run_over es M m                            == the events es, each stepped on what the one before it left
+--   run_from n s at M m                        == the same of n events of the script s, the first at place `at`
 --   script_events, first_machine, first_memory == a script's events, and what they start on: a new machine over the image
---   script_run s h         == a good script's run
---   listing_of s           == what a script prints: its run's lines and the last line, or only `refused` and its number
+--   script_run s h                             == a good script's run
+--   listing_of s                               == what a script prints: its run's lines and the last line, or only `refused` and its number
 use Rattle.std.specs.Prelude.{ℕ, List, [], ◌∷◌}
 use Rattle.common.specs.Refusal.{refusal_number}
 use Rattle.listing.specs.Listing.{listing_text, refused_text}

@@ -1,8 +1,8 @@
 -- The machine's state: privilege state, cache, controller and R0 to R31. Memory is lent beside it.
 --
---   new_machine base n penalty   == all parts new over a map of n bytes from `base` on; "Registers start at 0"
---   reset_of M                   == kind 13: "reset (memory and R0 to R31 kept)"; the cache keeps its range and penalty
---   with_sys, with_cache, with_irqc, with_reg   == the same machine with a part changed
+--   new_machine base n penalty                == all parts new over a map of n bytes from `base` on; "Registers start at 0"
+--   reset_of M                                == kind 13: "reset (memory and R0 to R31 kept)"; the cache keeps its range and penalty
+--   with_sys, with_cache, with_irqc, with_reg == the same machine with a part changed
 use Rattle.std.specs.Prelude.{ℕ, List, replicate}
 use Rattle.cache.specs.Cache.{new_cache, reset_of as cacheReset}
 use Rattle.cache.specs.declared.L1Cache.{L1Cache}

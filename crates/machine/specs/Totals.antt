@@ -1,8 +1,8 @@
 -- What a run's lines come to.
 --
---   no_totals           == before the first line
---   counted t l        == one line more: its letter counted, its digits added modulo 2^32, its stall and walk reads modulo 2^64
---   totals_from t ls    == the lines ls, after t
+--   no_totals        == before the first line
+--   counted t l      == one line more: its letter counted, its digits added modulo 2^32, its stall and walk reads modulo 2^64
+--   totals_from t ls == the lines ls, after t
 use Rattle.std.specs.Prelude.{ℕ, ◌+◌, ◌%◌, ◌^◌, Bool, cond, List, [], ◌∷◌, ◌==◌}
 use Rattle.listing.specs.declared.Line.{Line}
 use Rattle.machine.specs.declared.totals.Totals.{Totals}

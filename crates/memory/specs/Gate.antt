@@ -1,13 +1,13 @@
 -- What stops a call before it has looked at anything: document 01, 'Numbered refusals'.
 --
---   Gate                 == open, or a refusal
---   opens g              == it is open
---   gated g a f          == what comes behind an open gate, or what a refusal answers
---   first_of g h          == the first refusal of two gates, one behind the other
---   map_good m            == `good_map` of a memory
---   map_gate m            == refusal 2 where the map is not good
---   size_gate legal       == refusal 1 where the size is not legal
---   access_gate m legal   == refusal 2 for the map, then 1 for the size
+--   Gate                == open, or a refusal
+--   opens g             == it is open
+--   gated g a f         == what comes behind an open gate, or what a refusal answers
+--   first_of g h        == the first refusal of two gates, one behind the other
+--   map_good m          == `good_map` of a memory
+--   map_gate m          == refusal 2 where the map is not good
+--   size_gate legal     == refusal 1 where the size is not legal
+--   access_gate m legal == refusal 2 for the map, then 1 for the size
 use Rattle.std.specs.Prelude.{Bool, true, false, cond, length}
 use Rattle.common.specs.declared.Refusal.{Refusal}
 use Rattle.common.specs.declared.Refusal.TheVariants.{Size, Map}

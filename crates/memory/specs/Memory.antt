@@ -1,14 +1,14 @@
 -- Lent memory: document 01's stand-in for the bus. Everything that depends on memory goes through `byte_at`.
 --
---   Memory              == the lent bytes and the physical address of the first
---   good_map base n      == base and length are multiples of 4,096 and base + length is at most 0xFFFF0000, as a true sum
---   byte_at m a          == the byte at physical address a, or Outside
---   read_at m l          == the number whose bytes, high byte first, stand at the addresses l; Outside if one of them is
---   inside m a          == a is in the map
+--   Memory                 == the lent bytes and the physical address of the first
+--   good_map base n        == base and length are multiples of 4,096 and base + length is at most 0xFFFF0000, as a true sum
+--   byte_at m a            == the byte at physical address a, or Outside
+--   read_at m l            == the number whose bytes, high byte first, stand at the addresses l; Outside if one of them is
+--   inside m a             == a is in the map
 --   readable, writable m a == a byte can be read there, or written
---   put_byte m a b       == m with b at a, where a is writable
---   put_at m l bs        == m with the bytes bs at the addresses l, one after the other
---   all_writable m l     == every address of l is writable
+--   put_byte m a b         == m with b at a, where a is writable
+--   put_at m l bs          == m with the bytes bs at the addresses l, one after the other
+--   all_writable m l       == every address of l is writable
 --
 -- Reads and writes are over a list of addresses: where an access's addresses come from is the question of the parts above.
 -- A second, read-only memory would change `Memory`, `readable`, `byte_at` and `map_gate`, and none of what is said through them.

@@ -2,9 +2,9 @@
 -- `check_access` in cpu_privilege.rs.
 --
 --   page_addr p          == a page number made into an address; what passes 32 bits is dropped
---   permits e k         == e has U and the access bit, and its physical page lies below 0xFFFF0000
---   judged e k va       == allowed, or a protection page fault at va
---   checked vm v n      == an answer of the check: the state, the verdict, and the words read
+--   permits e k          == e has U and the access bit, and its physical page lies below 0xFFFF0000
+--   judged e k va        == allowed, or a protection page fault at va
+--   checked vm v n       == an answer of the check: the state, the verdict, and the words read
 --   check_with vm k va w == the check of one page, given what a walk for va finds
 --   check_page m vm k va == the check of one page, of which va is the first address that is wanted
 --   check_each m k vm l  == the checks of the pages l, in order, each given by its fault address; the first that denies decides

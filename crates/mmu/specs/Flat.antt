@@ -1,22 +1,22 @@
 -- Extension V's state as words that an owner lends.
 --
---   vm_words              == how many words there are; tlb_start, tlb_words: where the TLB's begin, and how many they are
---   entry_at w            == the entry of four words: the valid bit, the virtual page, the physical page, the flags
---   tlb_at t              == the sixteen entries of 64 words
---   vm_at l               == the state of 69 words: the enable bit, PTBR, VFAULT, the next victim's low and high half, the TLB
---   pages_is, no_pages     == an answer of the check of pages, and the one where there are not 69 words
---   pages_as r v          == that answer and the state after it, as the check by value gives them
---   frame_if v p          == p where v allows the access, else 0
+--   vm_words                    == how many words there are; tlb_start, tlb_words: where the TLB's begin, and how many they are
+--   entry_at w                  == the entry of four words: the valid bit, the virtual page, the physical page, the flags
+--   tlb_at t                    == the sixteen entries of 64 words
+--   vm_at l                     == the state of 69 words: the enable bit, PTBR, VFAULT, the next victim's low and high half, the TLB
+--   pages_is, no_pages          == an answer of the check of pages, and the one where there are not 69 words
+--   pages_as r v                == that answer and the state after it, as the check by value gives them
+--   frame_if v p                == p where v allows the access, else 0
 --   CheckedPages m k a n v r v' == the check of the pages of n bytes at a takes v to v' and answers r. Where it is allowed, r's frame is that of
---                           the last page, and so of an access that stays in its page
---   CheckedPage, WalkedPage == the same of one page, and of one that is not resident
---   grant_to p n, no_grant == the answers of `grant_page`: the page leads to p, after n words read; or the access is not granted
---   GrantedBy c va v r v' == the check c of va's page, made in v, as a grant: where it denies, there is none and the state stays
---   GrantsPage, GrantsWalk == the same of a page's check, and of one that is not resident
---   slot_at i             == a slot number as the search answers it: 16 is none
---   with_entry v i e      == the same state with another entry in a slot
---   with_registers v on p f == the same TLB with other registers
---   dropped_word p vpn w  == the valid word of an entry of page vpn, once page p is dropped
+--                                  the last page, and so of an access that stays in its page
+--   CheckedPage, WalkedPage     == the same of one page, and of one that is not resident
+--   grant_to p n, no_grant      == the answers of `grant_page`: the page leads to p, after n words read; or the access is not granted
+--   GrantedBy c va v r v'       == the check c of va's page, made in v, as a grant: where it denies, there is none and the state stays
+--   GrantsPage, GrantsWalk      == the same of a page's check, and of one that is not resident
+--   slot_at i                   == a slot number as the search answers it: 16 is none
+--   with_entry v i e            == the same state with another entry in a slot
+--   with_registers v on p f     == the same TLB with other registers
+--   dropped_word p vpn w        == the valid word of an entry of page vpn, once page p is dropped
 use Rattle.std.specs.Prelude.{◌≡◌, ℕ, ◌+◌, ◌*◌, ◌%◌, ◌^◌, ◌<◌, ◌≤◌, Bool, true, false, cond, List, ◌==◌, nat_lt, slice_set}
 use Rattle.layout.specs.Records.{records_of}
 use Rattle.layout.specs.Words.{part, word_at, on_at}

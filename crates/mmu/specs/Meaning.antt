@@ -1,8 +1,8 @@
 -- What the MMU's definitions mean: document 01's sentences on TLB, walk and page check as laws.
 --
---   entry_in vm i     == the entry in slot i
---   Meaning          == the laws, one field a sentence
---   Corners          == a figure, computed; those of document 01's corner table are in the crate `cases`
+--   entry_in vm i == the entry in slot i
+--   Meaning       == the laws, one field a sentence
+--   Corners       == a figure, computed; those of document 01's corner table are in the crate `cases`
 use Rattle.std.specs.Prelude.{◌≡◌, ℕ, ◌+◌, ◌*◌, ◌/◌, ◌%◌, ◌^◌, ◌<◌, ◌≤◌, true, ◌≢◌, List, length, get_or, ◌==◌, slice_index_or, slice_set}
 use Rattle.memory.specs.Memory.{Memory}
 use Rattle.mmu.specs.Tlb.{no_entry, dropped_page}

@@ -1,11 +1,11 @@
 -- What a walk can read, and what is open to users: the words in which isolation is said.
 --
---   TableByte m ptbr a   == the byte at a lies in a page table reachable from PTBR: in PTBR's page, or in the page that a level-1
---                           word names which the walk would follow
---   Usable m vm e        == e is an entry that a user's access may come to use: a valid one of the TLB, or the leaf that a walk of
---                           some address finds
---   entry_frame e            == the physical page of an entry; a page number drops what passes 32 bits
---   Opened m vm k a      == the byte at a lies in a page that a table leaf or a valid TLB entry opens to users for access k
+--   TableByte m ptbr a == the byte at a lies in a page table reachable from PTBR: in PTBR's page, or in the page that a level-1
+--                         word names which the walk would follow
+--   Usable m vm e      == e is an entry that a user's access may come to use: a valid one of the TLB, or the leaf that a walk of
+--                         some address finds
+--   entry_frame e      == the physical page of an entry; a page number drops what passes 32 bits
+--   Opened m vm k a    == the byte at a lies in a page that a table leaf or a valid TLB entry opens to users for access k
 --
 -- Choices that a reader may question. A word that the walk does not follow opens nothing, whatever its bits say. A valid entry counts
 -- even where an earlier slot holds the same page: evicting that one exposes it. An entry opens nothing where its virtual page lies at or

@@ -1,7 +1,7 @@
 -- What a TLB holds that the checks alone have filled: change request W-209.
 --
---   in_slot t i        == the entry in slot i
---   Orderly t         == no two valid entries have the same virtual page, and none has a page at or above 0xFFFF0000
+--   in_slot t i == the entry in slot i
+--   Orderly t   == no two valid entries have the same virtual page, and none has a page at or above 0xFFFF0000
 use Rattle.std.specs.Prelude.{◌≡◌, ℕ, ◌*◌, ◌<◌, true, List, slice_index_or}
 use Rattle.mmu.specs.Tlb.{no_entry}
 use Rattle.mmu.specs.declared.tlb.TlbEntry.{TlbEntry}

@@ -1,10 +1,10 @@
 -- The TLB: sixteen entries, of any page numbers. Document 01, 'Access and translation'; `lookup`, `fill`, `invalidate` and `flush`
 -- of cpu_privilege.rs.
 --
---   matches vpn e         == e is valid and is page vpn's
---   first_match vpn i l    == the slot of the first entry of l that matches, counted from i, or Nothing
---   dropped_page vpn l     == the entries of page vpn without their valid mark, valid or not before
---   no_entries             == sixteen entries of zeros
+--   matches vpn e       == e is valid and is page vpn's
+--   first_match vpn i l == the slot of the first entry of l that matches, counted from i, or Nothing
+--   dropped_page vpn l  == the entries of page vpn without their valid mark, valid or not before
+--   no_entries          == sixteen entries of zeros
 use Rattle.std.specs.Prelude.{ℕ, suc, Bool, false, cond, ◌&&◌, List, [], ◌∷◌, map, replicate, ◌==◌}
 use Rattle.mmu.specs.declared.tlb.TlbEntry.{TlbEntry}
 use Rattle.mmu.specs.declared.tlb.Slot.{Slot}

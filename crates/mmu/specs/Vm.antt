@@ -1,11 +1,11 @@
 -- Extension V's state and what changes it: `Vm` and its `fill`, `flush` and `invalidate`.
 --
---   new_vm              == translation off, all else 0: `Vm::default`
---   filled vm e        == e in the victim's slot, "even if another slot is free"; next_victim advances modulo 16
---   flushed vm         == all entries and next_victim zeroed; the registers stay
---   invalidated vm va  == the page of address va dropped: TLBINV
---   slot_of vm va       == the slot of the TLB that answers for va's page: the first valid match
---   frame_of vm va      == the physical page that va's page leads to, 0 where it is not resident
+--   new_vm            == translation off, all else 0: `Vm::default`
+--   filled vm e       == e in the victim's slot, "even if another slot is free"; next_victim advances modulo 16
+--   flushed vm        == all entries and next_victim zeroed; the registers stay
+--   invalidated vm va == the page of address va dropped: TLBINV
+--   slot_of vm va     == the slot of the TLB that answers for va's page: the first valid match
+--   frame_of vm va    == the physical page that va's page leads to, 0 where it is not resident
 use Rattle.std.specs.Prelude.{ℕ, ◌+◌, ◌/◌, ◌%◌, false, List, slice_index_or, slice_set}
 use Rattle.mmu.specs.declared.tlb.Slot.{Slot}
 use Rattle.mmu.specs.declared.tlb.Slot.TheVariants.{At, Nothing}

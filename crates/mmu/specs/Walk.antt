@@ -1,11 +1,11 @@
 -- The table walk: document 01, 'Access and translation'; `Vm::walk` of cpu_privilege.rs.
 --
---   table_ok w         == a level-1 word that names a table: V, bits 6 and 7 clear, R, W and X clear
---   leaf_ok w          == a leaf: V, bits 6 and 7 clear, some of R, W and X, and R if W
---   word_of_table w i   == where word i of a table stands, whose base is w with its low 12 bits cleared
+--   table_ok w        == a level-1 word that names a table: V, bits 6 and 7 clear, R, W and X clear
+--   leaf_ok w         == a leaf: V, bits 6 and 7 clear, some of R, W and X, and R if W
+--   word_of_table w i == where word i of a table stands, whose base is w with its low 12 bits cleared
 --   spot1, spot2      == where the walk's two words stand
---   leaf_entry va w    == the entry that a good leaf makes: its frame, and of its bits R, W, X and U alone
---   walk_of m ptbr va  == the walk for virtual address va
+--   leaf_entry va w   == the entry that a good leaf makes: its frame, and of its bits R, W, X and U alone
+--   walk_of m ptbr va == the walk for virtual address va
 --
 -- Of a table word bit 0 is V, 1 to 3 are R, W and X, 4 is U; 6 and 7 are reserved. The others are ignored.
 use Rattle.std.specs.Prelude.{ℕ, ◌+◌, ◌*◌, ◌/◌, ◌%◌, Bool, true, cond, not, ◌&&◌, ◌||◌, ◌==◌}

@@ -2,10 +2,10 @@
 -- `check_access` of cpu_privilege.rs.
 --
 --   fetch_size, data_size n == a fetch has 2 or 4 bytes, a load or store 1, 2 or 4
---   legal_size k n       == the sizes of an access
---   translating_of s     == a user's accesses are translated: `translating`
---   allows_of s a n k    == "Supervisor: always allowed. User, translation off: each byte ..": `allows`
---   check_access m s a n k == the check: `check_access`
+--   legal_size k n          == the sizes of an access
+--   translating_of s        == a user's accesses are translated: `translating`
+--   allows_of s a n k       == "Supervisor: always allowed. User, translation off: each byte ..": `allows`
+--   check_access m s a n k  == the check: `check_access`
 use Rattle.std.specs.Prelude.{ℕ, Bool, cond, not, ◌&&◌, ◌||◌, ◌==◌}
 use Rattle.common.specs.declared.Refusal.{Refusal}
 use Rattle.memory.specs.Gate.{gated, access_gate}

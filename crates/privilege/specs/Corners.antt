@@ -1,8 +1,8 @@
 -- Figures of the kind of document 01's corner table, computed from the definitions. The table itself is the crate `cases`.
 --
---   a_region start end flags    == a user's state, translation off, whose region 0 is this and whose others are 0
---   in_user                     == a new state in user mode
---   below n                    == the numbers below n, largest first
+--   a_region start end flags == a user's state, translation off, whose region 0 is this and whose others are 0
+--   in_user                  == a new state in user mode
+--   below n                  == the numbers below n, largest first
 use Rattle.std.specs.Prelude.{◌≡◌, ℕ, zero, suc, true, false, cond, List, [], ◌∷◌, replicate, slice_set}
 use Rattle.common.specs.declared.Refusal.TheVariants.{Register}
 use Rattle.mmu.specs.declared.exception.Access.TheVariants.{Read, Write, Fetch}

@@ -1,13 +1,13 @@
 -- The privilege state as 135 words that an owner lends, R0 to R31 with it.
 --
---   region_at l      == the region of three words: START, END, FLAGS
---   regions_at l     == the eight regions of twenty-four words
---   sys_at l         == the state of the words: STATUS, EPC and CAUSE, the bank, the regions, the translation's
---   reg_at l         == R0 to R31
---   Becomes l l' s reg == the words l become l', which stand for s and reg
---   Comes l l' s reg == the same over any words: of another number they stay
---   Exchanges l l'  == R28 to R30 exchanged with the bank
---   Leaves l' r w   == the words l' and the answer r are what the write w of a register leaves
+--   region_at l                       == the region of three words: START, END, FLAGS
+--   regions_at l                      == the eight regions of twenty-four words
+--   sys_at l                          == the state of the words: STATUS, EPC and CAUSE, the bank, the regions, the translation's
+--   reg_at l                          == R0 to R31
+--   Becomes l l' s reg                == the words l become l', which stand for s and reg
+--   Comes l l' s reg                  == the same over any words: of another number they stay
+--   Exchanges l l'                    == R28 to R30 exchanged with the bank
+--   Leaves l' r w                     == the words l' and the answer r are what the write w of a register leaves
 --   Traps, Returns, ReadsSr, WritesSr == what `enter_trap`, `leave_trap`, `read_sr` and `write_sr` promise over any words
 use Rattle.std.specs.Prelude.{◌≡◌, ℕ, ◌+◌, List, [], ◌∷◌, length}
 use Rattle.common.specs.declared.Refusal.TheVariants as refusal

@@ -1,10 +1,10 @@
 -- What the definitions mean, line by line: document 01's sentences of 'Traps and registers', of regions, of the check, of data and of the debugger's view as laws.
 --
---   named            == the register numbers that stand alone
---   is_region sr      == the number is a region's: 0x10 to 0x2E, but for the fourth of each four
---   known sr         == the number is a register's
---   Registers reg    == R0 to R31, as every register file is
---   Meaning          == the laws, one field a sentence
+--   named         == the register numbers that stand alone
+--   is_region sr  == the number is a region's: 0x10 to 0x2E, but for the fourth of each four
+--   known sr      == the number is a register's
+--   Registers reg == R0 to R31, as every register file is
+--   Meaning       == the laws, one field a sentence
 use Rattle.std.specs.Prelude.{◌≡◌, ℕ, ◌+◌, ◌*◌, ◌/◌, ◌%◌, ◌^◌, ◌<◌, ◌≤◌, Bool, true, false, cond, ◌&&◌, ◌||◌, List, [], ◌∷◌, length, get_or, ◌==◌, ◌≢◌, nat_le, nat_lt, slice_index, slice_index_or, slice_set}
 use Rattle.common.specs.Bits.{bit_set}
 use Rattle.common.specs.Bytes.{big_endian, bytes_of}

@@ -4,7 +4,7 @@
 --   some_grants l a k     == some region does
 --   byte_allowed l k a    == "each byte below 0xFFFF0000 and inside a region granting that access, ends exclusive"
 --   all_allowed l k at    == so for every address
---   field_of, with_field   == a region's START, END or FLAGS, the fields 0, 1, 2; "flags masked to 7"
+--   field_of, with_field  == a region's START, END or FLAGS, the fields 0, 1, 2; "flags masked to 7"
 --   field_written l n f v == the table with field f of region n written; past the table nothing is
 use Rattle.std.specs.Prelude.{ℕ, ◌/◌, ◌%◌, Bool, true, false, cond, ◌&&◌, ◌||◌, List, [], ◌∷◌, ◌==◌, nat_le, nat_lt, slice_index_or, slice_set}
 use Rattle.mmu.specs.Check.{below_reserved}

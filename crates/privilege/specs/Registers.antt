@@ -1,9 +1,9 @@
 -- The system registers: document 01, 'Traps and registers'; `region_field`, `read_sr` and `write_sr` of cpu_privilege.rs.
 --
---   region_field sr          == the region and field of a register number, or Nothing: `region_field`
---   user_read, user_written   == "user R28 to R30": the live registers in user mode, the bank otherwise
---   sr_read s sr reg         == a register read: `read_sr`
---   sr_written s sr v reg    == a register written: `write_sr`
+--   region_field sr               == the region and field of a register number, or Nothing: `region_field`
+--   user_read, user_written       == "user R28 to R30": the live registers in user mode, the bank otherwise
+--   sr_read s sr reg              == a register read: `read_sr`
+--   sr_written s sr v reg         == a register written: `write_sr`
 --   vm_enabled, vm_ptbr, vm_fault == translation's state with another VCTL, PTBR or VFAULT
 --
 -- An unknown number is what is left when all the others have been asked, as in the Rust; `Meaning` lists the known ones.

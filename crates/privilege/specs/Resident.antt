@@ -1,9 +1,9 @@
 -- The privilege state's TLB stays orderly, and what a resident page permits: change request W-209. Assumes nothing.
 --
---   Tidy s            == the TLB has its sixteen slots, and is orderly
---   new_tidy          == a new state's is
+--   Tidy s                                         == the TLB has its sixteen slots, and is orderly
+--   new_tidy                                       == a new state's is
 --   check_tidy, write_tidy, trap_tidy, return_tidy == it stays so through a check, a register write, a trap and a return from one
---   resident_check    == the check of an access inside a resident page: its entry decides, no table word is read and nothing changes
+--   resident_check                                 == the check of an access inside a resident page: its entry decides, no table word is read and nothing changes
 use Rattle.std.specs.Prelude.{◌≡◌, ℕ, ◌+◌, ◌*◌, ◌/◌, ◌%◌, ◌^◌, ◌<◌, ◌≤◌, true, List, length, ◌==◌}
 use Rattle.std.proofs.Common.{ap, ◌∙◌}
 use Rattle.common.specs.Cases.{cond_holds}

@@ -1,10 +1,10 @@
 -- The data of an access, given where its bytes are: a row of bytes in its first page and, over two pages, a row in the second.
 --
---   room_of a            == the bytes from a to the end of its page
---   next_page a          == the address after the last of a's page
---   place_of a pa pb i   == where byte i of an access at a is, if its first byte is at pa and the second page's first at pb
+--   room_of a               == the bytes from a to the end of its page
+--   next_page a             == the address after the last of a's page
+--   place_of a pa pb i      == where byte i of an access at a is, if its first byte is at pa and the second page's first at pb
 --   places_from a pa pb i n == where n of its bytes are, from byte i on
---   rows_of a n pa pb    == where the bytes of an access of n bytes at a are
+--   rows_of a n pa pb       == where the bytes of an access of n bytes at a are
 --
 -- The addresses of a row go on without wrapping; a page's bytes lie in one row, so for an access that was checked none passes 32 bits.
 use Rattle.std.specs.Prelude.{ℕ, zero, suc, ◌+◌, ◌-◌, ◌%◌, ◌^◌, cond, List, [], ◌∷◌, nat_lt}

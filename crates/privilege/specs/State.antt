@@ -1,11 +1,11 @@
 -- The privilege state and its STATUS word: document 01, 'Traps and registers'; `SystemState`, `status` and `set_status` of
 -- cpu_privilege.rs.
 --
---   new_state                 == "Reset leaves IE and PIE set, mode Normal and all else 0": `SystemState::default`
---   status_of s               == the word STATUS, "bits 0 to 4: IE, PIE, U, PU, PSM": `status`
---   status_set s v            == STATUS written; "A write ignores U": `set_status`
---   is_short, mode_of          == PSM's bit and the instruction mode
---   with_status, with_rest     == the same state with other STATUS bits, or with another rest
+--   new_state                                                                   == "Reset leaves IE and PIE set, mode Normal and all else 0": `SystemState::default`
+--   status_of s                                                                 == the word STATUS, "bits 0 to 4: IE, PIE, U, PU, PSM": `status`
+--   status_set s v                                                              == STATUS written; "A write ignores U": `set_status`
+--   is_short, mode_of                                                           == PSM's bit and the instruction mode
+--   with_status, with_rest                                                      == the same state with other STATUS bits, or with another rest
 --   with_ie, with_user, with_epc, with_cause, with_other, with_regions, with_vm == the same state with another IE, U, EPC and so on
 use Rattle.std.specs.Prelude.{ℕ, Bool, true, false, cond, List, [], ◌∷◌, replicate, bit_or}
 use Rattle.common.specs.Bits.{bit_set}

@@ -1,10 +1,10 @@
 -- Data access: document 01, 'Access and translation'; `physical`, `read_data` and `write_data` of cpu_privilege.rs.
 --
---   joined_to ppn va     == va's byte in a physical page; what passes 32 bits is dropped
---   physical_of s va     == the physical address of a byte, looked up in the TLB again: `physical`
---   spots s va n        == the physical addresses of an access's bytes, each looked up again
---   load_at m n l        == a load of n bytes that stand at the addresses l
---   store_at m n l, memory_at m n l v == a store's answer, and the memory that it leaves
+--   joined_to ppn va                      == va's byte in a physical page; what passes 32 bits is dropped
+--   physical_of s va                      == the physical address of a byte, looked up in the TLB again: `physical`
+--   spots s va n                          == the physical addresses of an access's bytes, each looked up again
+--   load_at m n l                         == a load of n bytes that stand at the addresses l
+--   store_at m n l, memory_at m n l v     == a store's answer, and the memory that it leaves
 --   data_read, data_written, memory_after == the same at an access's spots: `read_data`, `write_data`
 --
 -- `spots` is the one place where an access's addresses come from; loads and stores are over any list of addresses. A word

@@ -1,11 +1,11 @@
 -- Traps: document 01, 'Traps and registers'; `swap_bank`, `enter_trap` and `leave_trap` of cpu_privilege.rs.
 --
---   bank_of reg             == R28 to R30
---   with_bank reg b         == the registers with b in R28 to R30
---   exchanged s reg        == R28 to R30 exchanged with the bank: `swap_bank`
+--   bank_of reg               == R28 to R30
+--   with_bank reg b           == the registers with b in R28 to R30
+--   exchanged s reg           == R28 to R30 exchanged with the bank: `swap_bank`
 --   trapped s reg epc cause m == a trap: `enter_trap`
---   enters_user s           == IRET "enters user mode only if PU is set and U is not"
---   returned s reg         == IRET: `leave_trap`
+--   enters_user s             == IRET "enters user mode only if PU is set and U is not"
+--   returned s reg            == IRET: `leave_trap`
 use Rattle.std.specs.Prelude.{ℕ, Bool, true, false, cond, not, ◌&&◌, List, [], ◌∷◌, slice_index, slice_set}
 use Rattle.privilege.specs.State.{with_status, with_ie, with_user, with_epc, with_cause, with_other}
 use Rattle.privilege.specs.declared.state.InstructionMode.{InstructionMode}

@@ -1,10 +1,10 @@
 -- Change request W-209: "Say what a resident page permits."
 --
---   tlb_of M           == the machine's TLB
---   Granted e k       == "that entry has U and the access bit and its physical page is below 0xFFFF0000"
---   Held M m a n k i  == a user's access with translation on, over a good map and of a legal size, that stays in its page; the page is resident in slot i, and the TLB
---                        is as every run from reset leaves it
---   Residency         == the invariant, the rule, and what follows from it
+--   tlb_of M         == the machine's TLB
+--   Granted e k      == "that entry has U and the access bit and its physical page is below 0xFFFF0000"
+--   Held M m a n k i == a user's access with translation on, over a good map and of a legal size, that stays in its page; the page is resident in slot i, and the TLB
+--                       is as every run from reset leaves it
+--   Residency        == the invariant, the rule, and what follows from it
 use Rattle.std.specs.Prelude.{ℕ, ◌+◌, ◌%◌, ◌^◌, ◌≤◌, ◌<◌, ◌≡◌, true, List}
 use Rattle.common.specs.Bits.{bit_set}
 use Rattle.common.specs.Lists.{Each}

@@ -1,10 +1,10 @@
 -- Scripts at the limits of the refusals, and document 01's whole case, each computed from the definitions.
 --
---   a_header events eventsAt image imageAt base     == a header of these words, with penalty 8
---   IsGood n h, Is4 n h, Is2 n h, Is5 n h          == what becomes of a script of n bytes with header h
---   whole_case, whole_header                         == the bytes of the whole case, and its header
---   an_event kind size aux a                        == an event with b 0
---   Corners                                        == the figures, one field each
+--   a_header events eventsAt image imageAt base == a header of these words, with penalty 8
+--   IsGood n h, Is4 n h, Is2 n h, Is5 n h       == what becomes of a script of n bytes with header h
+--   whole_case, whole_header                    == the bytes of the whole case, and its header
+--   an_event kind size aux a                    == an event with b 0
+--   Corners                                     == the figures, one field each
 use Rattle.std.specs.Prelude.{◌≡◌, ℕ, List, [], ◌∷◌, ◌++◌, replicate}
 use Rattle.common.specs.declared.Refusal.TheVariants as refusal
 use Rattle.script.specs.Event.{event_at}

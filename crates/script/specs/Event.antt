@@ -1,8 +1,8 @@
 -- One event of a script: document 01, "Events have 12 bytes: kind, size, aux (u16), a, b (u32)", big-endian.
 --
---   event_at s at     == the event whose bytes start at place `at` of s; a byte past the end is 0
+--   event_at s at      == the event whose bytes start at place `at` of s; a byte past the end is 0
 --   events_from n s at == the n events from place `at` on
---   event_address    == of bytes, an event's address is a 32-bit number
+--   event_address      == of bytes, an event's address is a 32-bit number
 use Rattle.std.specs.Prelude.{◌≡◌, ℕ, zero, suc, ◌+◌, ◌^◌, ◌<◌, List, [], ◌∷◌, slice_index}
 use Rattle.std.proofs.Math.Path.{refl}
 use Rattle.std.proofs.Common.{arith, lit<}

@@ -1,19 +1,19 @@
 -- A script's header and when a script is refused: document 01, 'Event script and its listing' and 'Numbered refusals'.
 --
---   header_least             == the bytes of the shortest header: six words
---   header_size h            == the bytes of this header
---   header_at s              == the header's words, "event count, events offset, image length, image offset, physical base, miss penalty"
---   length_ok n              == a script of n bytes is neither too short nor too long: the first half of refusal 4
---   counts_ok h              == neither too many events nor a bad image length: the second half of refusal 4
---   events_section h         == where the events stand; an event has 12 bytes
---   image_section h          == where the image stands
---   empty p                 == the section has no byte
---   section_ok z n p         == an empty section, or one between a header of z bytes and the end of a script of n bytes
---   apart p q               == the sections share no byte
---   sections_ok n h          == both sections are good and apart: refusal 5 is not due
---   decided n h             == what becomes of a script of n bytes with this header: refusal 4, then 2, then 5, else good
---   script_of s              == the same of the script's bytes
---   event_place h k          == where event k starts
+--   header_least     == the bytes of the shortest header: six words
+--   header_size h    == the bytes of this header
+--   header_at s      == the header's words, "event count, events offset, image length, image offset, physical base, miss penalty"
+--   length_ok n      == a script of n bytes is neither too short nor too long: the first half of refusal 4
+--   counts_ok h      == neither too many events nor a bad image length: the second half of refusal 4
+--   events_section h == where the events stand; an event has 12 bytes
+--   image_section h  == where the image stands
+--   empty p          == the section has no byte
+--   section_ok z n p == an empty section, or one between a header of z bytes and the end of a script of n bytes
+--   apart p q        == the sections share no byte
+--   sections_ok n h  == both sections are good and apart: refusal 5 is not due
+--   decided n h      == what becomes of a script of n bytes with this header: refusal 4, then 2, then 5, else good
+--   script_of s      == the same of the script's bytes
+--   event_place h k  == where event k starts
 --
 -- Choices that a reader may question. A section is its start and its end, a true sum, so nothing wraps. The map is tested by
 -- memory's own definition. A script that is too short has header words all the same, of zeros past its end; they decide nothing.

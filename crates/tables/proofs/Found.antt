@@ -1,13 +1,13 @@
 -- What is found in the written tables, as far as it rests on the words of level 1. Assumes nothing.
 --
---   word_of_level1, word_of_level2, word_of_table_lem      == the words of the tables, read back
---   walk_leads              == a walk leads to the page's leaf, and where it has none, to nothing
---   walk_listed, walk_unlisted    == a walk finds exactly the listed mappings
---   walk_only               == an entry that a walk finds is one of the list
---   bytes_equal             == the bytes in the used frames
---   tables_inside, frames_are_tables        == the bytes of the tables are those of the used frames
---   directory_word          == the word of level 1 that names table number j
---   list_opens, opened_list       == what is open to users is what the list opens
+--   word_of_level1, word_of_level2, word_of_table_lem == the words of the tables, read back
+--   walk_leads                                        == a walk leads to the page's leaf, and where it has none, to nothing
+--   walk_listed, walk_unlisted                        == a walk finds exactly the listed mappings
+--   walk_only                                         == an entry that a walk finds is one of the list
+--   bytes_equal                                       == the bytes in the used frames
+--   tables_inside, frames_are_tables                  == the bytes of the tables are those of the used frames
+--   directory_word                                    == the word of level 1 that names table number j
+--   list_opens, opened_list                           == what is open to users is what the list opens
 use Rattle.std.specs.Prelude.{ℕ, zero, suc, ◌+◌, ◌-◌, ◌*◌, ◌/◌, ◌%◌, ◌^◌, ◌<◌, ◌≡◌, refl, List, [], ◌∷◌, eqb}
 use Rattle.std.proofs.Math.Path.{sym, ap}
 use Rattle.std.proofs.Common.{◌∙◌, get_or-append-add}
@@ -139,7 +139,7 @@ module _ (c : Call) (acc : Accepted c) where
 
   -- ---- the bytes of the tables are those of the used frames
 
-  -- a word that the walk follows names a frame after the c.first
+  -- a word that the walk follows names a frame after the first
   named : (a w : ℕ) → a / 4096 ≡ w / 4096 → table_ok w ≡ true → (i : ℕ) → table_for c.first i (directories c.vpns) ≡ w → InFrames c.first (frames_for c.vpns) a
   unfolding frames_for
   named a w e t i p =

@@ -1,11 +1,11 @@
 -- What is found in the written tables, in the words of the walk and of isolation.
 --
---   made c                == the memory with the call's tables, where it is not refused
---   Listed x l            == x is one of the mappings l
---   entry_of x             == the entry that x lists: its pages and its bits
---   InFrames first n a    == the byte at a lies in the n frames from first on
---   NoEntry vm            == no entry of the TLB is valid, as after the write of PTBR
---   Opens l k a           == the byte at a lies in a page that l opens to users for access k
+--   made c             == the memory with the call's tables, where it is not refused
+--   Listed x l         == x is one of the mappings l
+--   entry_of x         == the entry that x lists: its pages and its bits
+--   InFrames first n a == the byte at a lies in the n frames from first on
+--   NoEntry vm         == no entry of the TLB is valid, as after the write of PTBR
+--   Opens l k a        == the byte at a lies in a page that l opens to users for access k
 use Rattle.std.specs.Prelude.{ℕ, ◌+◌, ◌*◌, ◌/◌, ◌≤◌, ◌<◌, ◌≡◌, true, false, List, [], ◌∷◌, ◌⊎◌, get_or}
 use Rattle.common.specs.Bits.{bit_set}
 use Rattle.memory.specs.Memory.{Memory}

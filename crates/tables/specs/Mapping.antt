@@ -1,16 +1,16 @@
 -- Mappings and the list of them: W-201, "a list of mappings (virtual and physical page number, R, W, X, U), ascending by virtual page, at
 -- most 512".
 --
---   mapping v p b        == a mapping of virtual page v to physical page p; of b R is 2, W 4, X 8 and U 16, as in a leaf
---   mappings vs ps bs    == the mappings that three lists make, element by element
---   leaf_of x             == the leaf's word: frame, listed bits and V
---   only_listed b         == no bit but R, W, X and U
---   good_bits b           == no other bit, and a walk accepts a leaf of these bits
---   good_mapping x        == a walk accepts the leaf and both pages start below 0xFFFF0000
---   all_good l            == every mapping of l is good: refusal 10 else
---   ascending_from n l    == every page of l is above the one before it, the first is at least n
---   good_list vs ps bs    == at most 512, ascending without a repeat, and the three lists of one length: refusal 9 else
---   leaf_at v l           == the leaf of virtual page v, or 0 where l has no such page
+--   mapping v p b      == a mapping of virtual page v to physical page p; of b R is 2, W 4, X 8 and U 16, as in a leaf
+--   mappings vs ps bs  == the mappings that three lists make, element by element
+--   leaf_of x          == the leaf's word: frame, listed bits and V
+--   only_listed b      == no bit but R, W, X and U
+--   good_bits b        == no other bit, and a walk accepts a leaf of these bits
+--   good_mapping x     == a walk accepts the leaf and both pages start below 0xFFFF0000
+--   all_good l         == every mapping of l is good: refusal 10 else
+--   ascending_from n l == every page of l is above the one before it, the first is at least n
+--   good_list vs ps bs == at most 512, ascending without a repeat, and the three lists of one length: refusal 9 else
+--   leaf_at v l        == the leaf of virtual page v, or 0 where l has no such page
 --
 -- Choices that a reader may question. Whether a walk accepts a leaf is asked of the walk's own `leaf_ok`. A number in the list of bits
 -- that has another bit than R, W, X and U is no leaf of W-201's and is refused as one: written, it would not be "all else zero", and

@@ -1,12 +1,12 @@
 -- What the writer's definitions mean: W-201's sentences as laws.
 --
---   InOrder l             == ascending without a repeat
---   Wrote c ptbr used     == the call was not refused, and answered PTBR and the number of used frames
+--   InOrder l                          == ascending without a repeat
+--   Wrote c ptbr used                  == the call was not refused, and answered PTBR and the number of used frames
 --   First r map list leaves run frames == r is the first refusal, where each question is answered so
---   Applies c r           == r is the first refusal that applies to the call
---   indexes vs            == the level-1 word of each page
---   distinct l            == how many numbers l has, each counted once
---   Meaning               == the laws, one field a sentence
+--   Applies c r                        == r is the first refusal that applies to the call
+--   indexes vs                         == the level-1 word of each page
+--   distinct l                         == how many numbers l has, each counted once
+--   Meaning                            == the laws, one field a sentence
 use Rattle.std.specs.Prelude.{ℕ, suc, ◌+◌, ◌*◌, ◌/◌, ◌%◌, ◌^◌, ◌≤◌, ◌<◌, ◌≡◌, Bool, true, false, cond, ◌||◌, List, [], ◌∷◌, map, leb, eqb, length, get_or}
 use Rattle.common.specs.Bits.{bit_set}
 use Rattle.memory.specs.Memory.{Memory, good_map, byte_at, read_at, word_spots, inside}

@@ -1,16 +1,16 @@
 -- The page tables of a list of mappings: W-201.
 --
---   directories vs       == the level-1 words that the pages vs use, in order; a page's directory is its number / 1,024
---   table_for a i ds      == word i of level 1, where the tables of the directories ds stand in the frames after a: "a used word holds its
---                           frame and V", else 0
---   level1 first ds      == the 1,024 words of level 1, which stands at first
---   level2 d l           == the 1,024 words of directory d's table: each page's leaf, or 0
---   tables_after last l   == the tables of the mappings l that come after a page of directory last: one for each directory, in order
---   image first vs l     == all words that are written: level 1, then each level-2 table
---   frames_for vs         == frames that the pages vs need
---   good_run m first n    == a run of n frames from first on is aligned and has no byte outside the map: refusal 11 else
---   answer_for, memory_after   == what the writer answers, and the memory that it leaves
---   Call                 == the writer's arguments; list_of, answer_to, after: its list, its answer and the memory that it leaves
+--   directories vs           == the level-1 words that the pages vs use, in order; a page's directory is its number / 1,024
+--   table_for a i ds         == word i of level 1, where the tables of the directories ds stand in the frames after a: "a used word holds its
+--                               frame and V", else 0
+--   level1 first ds          == the 1,024 words of level 1, which stands at first
+--   level2 d l               == the 1,024 words of directory d's table: each page's leaf, or 0
+--   tables_after last l      == the tables of the mappings l that come after a page of directory last: one for each directory, in order
+--   image first vs l         == all words that are written: level 1, then each level-2 table
+--   frames_for vs            == frames that the pages vs need
+--   good_run m first n       == a run of n frames from first on is aligned and has no byte outside the map: refusal 11 else
+--   answer_for, memory_after == what the writer answers, and the memory that it leaves
+--   Call                     == the writer's arguments; list_of, answer_to, after: its list, its answer and the memory that it leaves
 --
 -- Choices that a reader may question. Every word of a used frame is written, so nothing depends on what stood there. A run is judged
 -- whole, also its frames that are not needed; those keep their bytes. A run of no frames has no byte outside. That a mapping leads to a

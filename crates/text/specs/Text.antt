@@ -1,8 +1,8 @@
 -- Text as a list of bytes, and what a buffer holds after text was written into it.
 --
---   hex_of k v               == the lowest k hexadecimal digits of v, a word of 32 bits, upper case, the highest of them first
---   decimal_of v             == v in decimal with no leading zeros; a number of 64 bits has at most twenty digits
---   written (out, at) text  == the buffer with the text from place `at` on, and the next place; what has no room is left out
+--   hex_of k v             == the lowest k hexadecimal digits of v, a word of 32 bits, upper case, the highest of them first
+--   decimal_of v           == v in decimal with no leading zeros; a number of 64 bits has at most twenty digits
+--   written (out, at) text == the buffer with the text from place `at` on, and the next place; what has no room is left out
 use Rattle.std.specs.Prelude.{ℕ, zero, suc, ◌+◌, ◌*◌, ◌/◌, ◌%◌, ◌^◌, cond, List, [], ◌∷◌, ltb, length, set}
 pub mod Laws
 

@@ -1,6 +1,6 @@
 -- The accesses of the witness and of the counterexamples, and the layouts of their memories, computed. Assumes nothing.
 --
---   answer_to o M m   == what access o answers
+--   answer_to o M m  == what access o answers
 --   ran_one, ran_two == a run of one or two accesses, by its accesses
 --   left M m x       == an access that answered x and left the machine M and the memory m
 --   Computed         == the figures, one field each

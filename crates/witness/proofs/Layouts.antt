@@ -1,10 +1,10 @@
 -- Where the tables of a laid memory lie and which page is open, by a test of its words. Assumes nothing.
 --
---   fits q t f l      == of the words l, those of page q that the walk follows name page t, and the good leaves of page t frame f
---   Layout m vm q t f == the tables lie in pages q and t, and page f alone is open to users
---   layout            == a memory whose words fit, under a TLB with no other valid entry than such of frame f, has that layout
+--   fits q t f l                                             == of the words l, those of page q that the walk follows name page t, and the good leaves of page t frame f
+--   Layout m vm q t f                                        == the tables lie in pages q and t, and page f alone is open to users
+--   layout                                                   == a memory whose words fit, under a TLB with no other valid entry than such of frame f, has that layout
 --   unhidden_tables_lem, unhidden_pages_lem, shut_tables_lem == what a layout says of the three parts of Sealed, where page h is hidden
---   alike             == two memories that differ in a word of page h
+--   alike                                                    == two memories that differ in a word of page h
 use Prim.Native.Nat.{ℕ, zero, suc, ◌+◌, ◌*◌, ◌/◌, ◌%◌, ◌^◌, ◌<◌}
 use mathlib.Core.Path.{◌≡◌, refl, sym, ◌∙◌}
 use mathlib.Core.Bool.{Bool, true, false, not, ◌&&◌, ◌||◌}

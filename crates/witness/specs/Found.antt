@@ -1,9 +1,9 @@
 -- What a walk that finds a leaf has read. Assumes nothing.
 --
---   Found m ptbr va e  == the two words, that the walk follows them, and that e is the second one's entry
---   walk_found         == a walk that finds the leaf e has found it so
+--   Found m ptbr va e     == the two words, that the walk follows them, and that e is the second one's entry
+--   walk_found            == a walk that finds the leaf e has found it so
 --   zero_table, zero_leaf == a word of 0 names no table and is no leaf
---   leaf_frame         == the frame of a leaf's entry
+--   leaf_frame            == the frame of a leaf's entry
 use Rattle.std.specs.Prelude.{ℕ, ◌/◌, ◌≡◌, true, false}
 use Rattle.std.proofs.Math.Path.{refl}
 use Rattle.common.specs.Bits.{bit_set}

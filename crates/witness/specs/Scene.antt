@@ -1,11 +1,11 @@
 -- Machines for the examples of demand 3, over a memory that is given by its words.
 --
---   on_page h          == every byte of physical page h is hidden
---   tlb_of e           == sixteen slots, all empty but the first, which has e
+--   on_page h           == every byte of physical page h is hidden
+--   tlb_of e            == sixteen slots, all empty but the first, which has e
 --   user_vm, user_state == user mode and translation on, PTBR at page q, the TLB l, and slot 0 the next victim
---   machine_with p s     == a new machine over p pages, with a miss penalty of 8 and the privilege state s
---   load, store       == an access of a run
---   answer o n r      == its answer: outcome, stall, walk reads
+--   machine_with p s    == a new machine over p pages, with a miss penalty of 8 and the privilege state s
+--   load, store         == an access of a run
+--   answer o n r        == its answer: outcome, stall, walk reads
 use Rattle.std.specs.Prelude.{ℕ, ◌*◌, ◌/◌, Bool, true, List, ◌∷◌, eqb, replicate}
 use Rattle.mmu.specs.Tlb.{no_entry}
 use Rattle.mmu.specs.declared.exception.Access.TheVariants.{Read, Write}

@@ -1,12 +1,12 @@
 -- The laws of one bit, by which a fact of words is a calculation with Bools: a bit of an `&`, an `|`, a `^`, a `!` and a
 -- power of two, the test of a mask, and that two words are equal when their bits are. Each is stated once, over the width.
 --
---   bit_and_lem, bit_or_lem, bit_xor_lem, bit_not, bit_pow, bit_of_zero   == a bit of each operation's result
---   with_bit_lem, without_bits_lem, without_bit_lem                       == a bit of a word with bits set or cleared
---   flag_is                                                   == the test `x & (1 << n) != 0`
---   field_is                                                  == the test of several bits by a mask
---   one_shifted                                               == the word `1 << n`
---   same_bits                                                 == equal bits, equal words
+--   bit_and_lem, bit_or_lem, bit_xor_lem, bit_not, bit_pow, bit_of_zero == a bit of each operation's result
+--   with_bit_lem, without_bits_lem, without_bit_lem                     == a bit of a word with bits set or cleared
+--   flag_is                                                             == the test `x & (1 << n) != 0`
+--   field_is                                                            == the test of several bits by a mask
+--   one_shifted                                                         == the word `1 << n`
+--   same_bits                                                           == equal bits, equal words
 -- Assumes nothing.
 use Rattle.std.specs.Prelude.{◌≡◌, refl, Bool, true, false, not, ◌&&◌, ◌||◌, ◌⊎◌, ℕ, zero, suc, ◌+◌, ◌-◌, ◌*◌, ◌/◌, ◌%◌, ◌^◌, ◌<◌, min, max, eqb}
 use Rattle.std.proofs.Common.{sym, ap, ap₂, ◌∙◌, inl, inr, ⊎_elim, mod-lt, div-one, pow-suc, one-mul, zero-mul, suc-mul, lt_of_le_of_lt, one-add, arith, eqb-true, ne_eqb, lit<, pow_pos, pow-add, shl_exact, shr-shr}

@@ -1,10 +1,10 @@
 -- The laws of a run. Assumes nothing.
 --
---   over_lines     == a run has a line for each event
---   over_append    == a run goes on where another ended
---   run_lines      == so a run of n events of a script has n lines
---   listing_good   == a good script's listing is that of its events' run
---   listing_whole  == every script's listing fits into `LISTING_MAX` bytes
+--   over_lines         == a run has a line for each event
+--   over_append        == a run goes on where another ended
+--   run_lines          == so a run of n events of a script has n lines
+--   listing_good       == a good script's listing is that of its events' run
+--   listing_whole      == every script's listing fits into `LISTING_MAX` bytes
 --   run_none, run_next == a run of no event, and of one event more: the event's step, and the run on what that left
 use Rattle.std.specs.Prelude.{◌≡◌, ℕ, zero, suc, ◌+◌, ◌≤◌, List, [], ◌∷◌, ◌++◌, length, refl}
 use Rattle.std.proofs.Common.{ap, ◌∙◌}

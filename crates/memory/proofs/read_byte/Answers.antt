@@ -10,7 +10,7 @@ returns-then-addr-base c = search byte_below
 pub overflow_cast-result : goal.overflow_cast-result
 overflow_cast-result c =
     let a = c.args in
-    omega (arith, c.shared_slice_known-1.given (a.addr - a.base))
+    omega (arith, c.type_inv.mem (a.addr - a.base))
 
 pub returns-then-at-mem : goal.returns-then-at-mem
 returns-then-at-mem c = search byte_inside

@@ -1,11 +1,11 @@
 -- Lent memory byte by byte, as a loop reads or writes it, and the four bytes of a word. Assumes nothing.
 --
---   read_on m high l       == the number that starts with `high` and goes on with the bytes at l
---   read_whole, read_none, read_value, read_outside   == a read, byte by byte
---   byte_small            == a byte of a list of bytes is below 256
---   put_none, put_next    == a write, byte by byte
---   writable_none, writable_next == that every address is writable, one by one
---   put_four, read_four   == a word's four bytes, written and read
+--   read_on m high l                                == the number that starts with `high` and goes on with the bytes at l
+--   read_whole, read_none, read_value, read_outside == a read, byte by byte
+--   byte_small                                      == a byte of a list of bytes is below 256
+--   put_none, put_next                              == a write, byte by byte
+--   writable_none, writable_next                    == that every address is writable, one by one
+--   put_four, read_four                             == a word's four bytes, written and read
 use Rattle.std.specs.Prelude.{ℕ, ◌+◌, ◌-◌, ◌*◌, ◌<◌, ◌≡◌, true, ◌&&◌, List, [], ◌∷◌, map, get_or}
 use Rattle.std.proofs.Math.Path.{refl}
 use Rattle.common.specs.Bytes.{big_endian}

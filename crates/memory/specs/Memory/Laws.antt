@@ -1,14 +1,14 @@
 -- The laws of lent memory. Assumes nothing.
 --
---   read_same        == what is read depends on the bytes read alone
---   put_here, put_other, put_both       == a byte after one was written
---   write_both, write_other             == a byte after several were written
---   put_base, put_length, write-base, write-length      == the map stays
---   inside_same, outside_same     == which addresses are inside depends on the map alone
---   same_map         == a memory has its own map
---   inside_map, inside_bounds     == inside is between the map's first address and its end
---   good_map_is, good_map_end     == the tests that a good map passes; it ends at 0xFFFF0000 or before
---   lent_put         == a byte written at a base keeps the base
+--   read_same                       == what is read depends on the bytes read alone
+--   put_here, put_other, put_both   == a byte after one was written
+--   write_both, write_other         == a byte after several were written
+--   put_base, put_length, write_map == the map stays
+--   inside_same, outside_same       == which addresses are inside depends on the map alone
+--   same_map                        == a memory has its own map
+--   inside_map, inside_bounds       == inside is between the map's first address and its end
+--   good_map_is, good_map_end       == the tests that a good map passes; it ends at 0xFFFF0000 or before
+--   lent_put                        == a byte written at a base keeps the base
 use Rattle.std.specs.Prelude.{ℕ, ◌+◌, ◌-◌, ◌%◌, ◌≤◌, ◌<◌, ◌≡◌, refl, true, false, ◌&&◌, List, [], ◌∷◌, map, ◌≢◌, leb, ltb, eqb, length, get_or, set}
 use Rattle.std.proofs.Common.{sym, ap, ◌∙◌, ⊎_elim, arith, length-set, get_or-set_same, get_or-set_other, leb-true, ltb-true, le-leb, lt-ltb}
 use Rattle.std.proofs.Math.Decide.{ℕ_discrete}

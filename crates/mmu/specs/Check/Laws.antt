@@ -1,9 +1,9 @@
 -- The laws of the page check that others use. Assumes nothing.
 --
---   walk_reads, page_reads    == at most two words are read for a page
---   allowed_low               == an allowed page lies below the reserved addresses
+--   walk_reads, page_reads     == at most two words are read for a page
+--   allowed_low                == an allowed page lies below the reserved addresses
 --   next_number, next_not_zero == so the number after an allowed page's is a page's, and is not 0
---   permits_bits              == an entry of a low frame permits what its bits say
+--   permits_bits               == an entry of a low frame permits what its bits say
 use Rattle.std.specs.Prelude.{◌≡◌, ℕ, ◌+◌, ◌/◌, ◌%◌, ◌^◌, ◌<◌, ◌≤◌, ◌&&◌}
 use Rattle.std.proofs.Math.Bool.{and-true}
 use Rattle.std.proofs.Common.{arith, lit≤, ltb-true, lt-ltb}

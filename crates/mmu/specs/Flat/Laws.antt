@@ -1,12 +1,12 @@
 -- The laws of extension V's state as words. Assumes nothing.
 --
---   tlb_slots                 == there are sixteen entries, whatever the words are
---   bit_on                    == the word of a truth value stands for it
---   entry_is                  == the entry in a slot, by its words
+--   tlb_slots                                         == there are sixteen entries, whatever the words are
+--   bit_on                                            == the word of a truth value stands for it
+--   entry_is                                          == the entry in a slot, by its words
 --   vm_enabled_lem, vm_ptbr_lem, vm_vfault, vm_victim == what a register's words set do
---   vm_word                   == what a word of an entry set does
---   vm_entry                  == all four of them set: the entry stands in its slot
---   grant_open, grant_none    == what a grant says of the check that it stands for, and what none says
+--   vm_word                                           == what a word of an entry set does
+--   vm_entry                                          == all four of them set: the entry stands in its slot
+--   grant_open, grant_none                            == what a grant says of the check that it stands for, and what none says
 use Rattle.std.specs.Prelude.{◌≡◌, ℕ, ◌+◌, ◌*◌, ◌%◌, ◌^◌, ◌<◌, Bool, true, false, List, [], ◌∷◌, length, set, ◌==◌, slice_index, slice_index_or, slice_set, refl}
 use Rattle.std.proofs.Common.{sym, ap, ◌∙◌, arith, set-set}
 use Rattle.std.proofs.Math.ListN.{length-set}

@@ -1,9 +1,9 @@
 -- An orderly TLB stays so, and a resident page's entry decides. Assumes nothing.
 --
---   flushed_slots, dropped_slots           == a flush and a dropped page leave sixteen slots
---   orderly_flushed, orderly_dropped       == a flushed TLB is orderly, and one from which a page was dropped stays so
---   orderly_page, orderly_each             == so does one after the check of a page, and of several
---   resident_page                          == the check of a resident page, whose entry decides: no word is read and nothing changes
+--   flushed_slots, dropped_slots                         == a flush and a dropped page leave sixteen slots
+--   orderly_flushed, orderly_dropped                     == a flushed TLB is orderly, and one from which a page was dropped stays so
+--   orderly_page, orderly_each                           == so does one after the check of a page, and of several
+--   resident_page                                        == the check of a resident page, whose entry decides: no word is read and nothing changes
 --   judged_open, judged_only, permits_when, permits_only == it allows exactly what the entry permits: U, the access's bit and a page below 0xFFFF0000
 use Rattle.std.specs.Prelude.{◌≡◌, ℕ, zero, suc, ◌*◌, ◌/◌, ◌^◌, ◌<◌, Bool, true, false, cond, not, ◌&&◌, ◌⊎◌, List, [], ◌∷◌, length, ◌==◌, ◌≢◌, nat_eq, slice_set}
 use Rattle.std.proofs.Math.Path.{refl, ap}

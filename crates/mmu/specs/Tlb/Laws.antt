@@ -1,10 +1,10 @@
 -- The laws of the TLB. Assumes nothing.
 --
---   found_bound        == a slot that the search finds is within the list
---   found_matches      == the entry that stands there matches
---   found_after_fill   == a page that was missing is found where its entry was filled
---   mark_dropped t e    == e without its valid mark, where t says so
---   dropped_at         == an entry after its page, or another, was dropped: the valid mark alone may change
+--   found_bound      == a slot that the search finds is within the list
+--   found_matches    == the entry that stands there matches
+--   found_after_fill == a page that was missing is found where its entry was filled
+--   mark_dropped t e == e without its valid mark, where t says so
+--   dropped_at       == an entry after its page, or another, was dropped: the valid mark alone may change
 use Rattle.std.specs.Prelude.{◌≡◌, ℕ, zero, suc, ◌+◌, ◌-◌, ◌<◌, ◌≤◌, Bool, true, false, cond, not, ◌&&◌, List, [], ◌∷◌, map, length, get_or, ◌==◌, slice_index_or, slice_set, refl}
 use Rattle.std.proofs.Common.{sym, ap, ◌∙◌, arith, eqb-true}
 use Rattle.std.proofs.Math.ListN.{get_or-map}

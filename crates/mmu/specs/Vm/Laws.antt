@@ -1,8 +1,8 @@
 -- The laws of extension V's state. Assumes nothing.
 --
---   flushed_is        == a flush keeps the registers and zeroes the TLB and next_victim
---   no_entries_lem        == it leaves no valid entry
---   frame_same        == addresses of one page lead to one frame
+--   flushed_is                          == a flush keeps the registers and zeroes the TLB and next_victim
+--   no_entries_lem                      == it leaves no valid entry
+--   frame_same                          == addresses of one page lead to one frame
 --   invalidated_else, invalidated_entry == TLBINV changes the TLB alone, and there the valid marks of the page's entries alone
 use Rattle.std.specs.Prelude.{◌≡◌, ℕ, ◌/◌, false, get_or, replicate, ◌==◌, slice_index_or, refl}
 use Rattle.std.proofs.Common.{ap, ⊎_elim}

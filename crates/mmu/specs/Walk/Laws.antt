@@ -1,10 +1,10 @@
 -- The laws of the walk, by the words that it reads. Assumes nothing.
 --
---   leaf_by_bits, leaf_alone      == a walk looks at a leaf's bits and not at its frame
---   table_followed    == a frame's address and V is a word that the walk follows; none_followed: 0 is none
---   walk_two, walk_one            == a walk by the words that it reads
---   leaf_found, no_leaf           == what the second word leads to
---   entry_of_lem          == the entry of a leaf, from its frame and bits
+--   leaf_by_bits, leaf_alone == a walk looks at a leaf's bits and not at its frame
+--   table_followed           == a frame's address and V is a word that the walk follows; none_followed: 0 is none
+--   walk_two, walk_one       == a walk by the words that it reads
+--   leaf_found, no_leaf      == what the second word leads to
+--   entry_of_lem             == the entry of a leaf, from its frame and bits
 use Rattle.std.specs.Prelude.{◌≡◌, ℕ, ◌+◌, ◌*◌, ◌/◌, ◌%◌, ◌^◌, ◌<◌, true, false, not, ◌&&◌, ◌||◌, ◌==◌, refl}
 use Rattle.std.proofs.Common.{ap, ◌∙◌, div-one, arith}
 use Rattle.common.specs.Bits.{bit_set}

@@ -1,15 +1,15 @@
 -- The laws of the access check that others use. Assumes nothing.
 --
---   Kept s s'          == nothing but the TLB and next_victim differs, and there are as many slots
---   check_refused, check_good == a refusal of the gate, with nothing changed; else the check of a legal access
---   legal_answers      == a legal access is allowed or denied, never refused
---   by_supervisor, by_regions_lem, by_pages       == the check in each mode
---   regions_decide     == the whole check of a user without translation: what the regions say of the access's bytes
---   check_keeps        == what any check leaves, a refused or denied one included
---   check_user         == the mode stays
---   refused_nothing    == a refusal has changed nothing and read nothing
---   check_number       == a check is refused with 2 or 1 alone
---   legal_few, allowed_size == a legal size, and so an allowed access's, is between 1 and 4
+--   Kept s s'                               == nothing but the TLB and next_victim differs, and there are as many slots
+--   check_refused, check_good               == a refusal of the gate, with nothing changed; else the check of a legal access
+--   legal_answers                           == a legal access is allowed or denied, never refused
+--   by_supervisor, by_regions_lem, by_pages == the check in each mode
+--   regions_decide                          == the whole check of a user without translation: what the regions say of the access's bytes
+--   check_keeps                             == what any check leaves, a refused or denied one included
+--   check_user                              == the mode stays
+--   refused_nothing                         == a refusal has changed nothing and read nothing
+--   check_number                            == a check is refused with 2 or 1 alone
+--   legal_few, allowed_size                 == a legal size, and so an allowed access's, is between 1 and 4
 use Rattle.std.specs.Prelude.{◌≡◌, ℕ, ◌<◌, ◌≤◌, Bool, true, false, cond, ◌||◌, ◌==◌, ◌≢◌, refl}
 use Rattle.std.proofs.Math.Path.{ap}
 use Rattle.std.proofs.Common.{◌∙◌, arith, eqb-true}

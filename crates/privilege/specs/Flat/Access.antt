@@ -1,22 +1,22 @@
 -- The check of an access where the state's words stand, and where the access's bytes are.
 --
---   if_allowed p x       == x where the access is allowed, 0 where it is not
---   permit_at p at a n reads == the permit of an access of n bytes at a, whose bytes are where `at` says: where its first byte is and, over two pages,
---                          the second page's first
---   permit_of C a n      == the permit that the check C comes to, by the lookups of the state that it leaves
---   bare_permit a n      == the permit of an allowed access that is not translated
---   regions_permit rs a n k == a user's that is not translated, by the regions rs
---   pages_permit d a n   == a translated access's, by the check d of its pages
---   refused_as r         == a refusal
+--   if_allowed p x            == x where the access is allowed, 0 where it is not
+--   permit_at p at a n reads  == the permit of an access of n bytes at a, whose bytes are where `at` says: where its first byte is and, over two pages,
+--                                the second page's first
+--   permit_of C a n           == the permit that the check C comes to, by the lookups of the state that it leaves
+--   bare_permit a n           == the permit of an allowed access that is not translated
+--   regions_permit rs a n k   == a user's that is not translated, by the regions rs
+--   pages_permit d a n        == a translated access's, by the check d of its pages
+--   refused_as r              == a refusal
 --   Translated m l a n k r l' == the check of a translated access takes translation's words l to l' and answers r
---   Answers C l a n r l' == the check C takes the words l to l' and answers r; R0 to R31 stay
---   Permits m l a n k r l' == what `check_access` promises over any words
---   grant_at p n, no_grant == the answers of `grant_word`: the word is at p, after n table words read; or it is not granted
---   permit_for g         == the permit of a word that is granted
---   grant_in g a         == the grant of a's page, as one of the word at a
---   at_once s a          == the words that it is asked for: inside their page, a supervisor's or translated
---   GrantedBy c l a r l' == the check c as a grant: where it allows; elsewhere there is none, and the state stays
---   Grants m l a k r l' == what `grant_word` promises over any words
+--   Answers C l a n r l'      == the check C takes the words l to l' and answers r; R0 to R31 stay
+--   Permits m l a n k r l'    == what `check_access` promises over any words
+--   grant_at p n, no_grant    == the answers of `grant_word`: the word is at p, after n table words read; or it is not granted
+--   permit_for g              == the permit of a word that is granted
+--   grant_in g a              == the grant of a's page, as one of the word at a
+--   at_once s a               == the words that it is asked for: inside their page, a supervisor's or translated
+--   GrantedBy c l a r l'      == the check c as a grant: where it allows; elsewhere there is none, and the state stays
+--   Grants m l a k r l'       == what `grant_word` promises over any words
 use Rattle.std.specs.Prelude.{◌≡◌, ℕ, ◌%◌, Bool, true, false, cond, not, ◌&&◌, ◌||◌, List, nat_lt}
 use Rattle.common.specs.declared.Refusal.{Refusal}
 use Rattle.common.specs.declared.Refusal.TheVariants.{Map}

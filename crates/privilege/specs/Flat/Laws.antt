@@ -1,7 +1,7 @@
 -- The laws of the state's words. Assumes nothing.
 --
 --   regions_length            == the regions are eight
---   region_at_lem, region_put     == region n of the words, and its words written
+--   region_at_lem, region_put == region n of the words, and its words written
 --   ten                       == what holds of any first ten words holds of all the words
 --   sys_vm, sys_regions       == the state after translation's words or the regions' are replaced; R0 to R31 stay (reg_vm, reg_regions)
 --   sys_regs, reg_regs        == the same of R0 to R31

@@ -1,7 +1,7 @@
 -- The laws of the system registers. Assumes nothing.
 --
 --   read_number, write_number == a read or write is refused with 3 alone
---   write_refused    == a refused write leaves the state and the registers
+--   write_refused             == a refused write leaves the state and the registers
 use Rattle.std.specs.Prelude.{◌≡◌, ℕ, ◌*◌, ◌/◌, Bool, cond, List, ◌==◌}
 use Rattle.std.proofs.Math.Path.{refl}
 use Rattle.std.proofs.Common.{ap}

@@ -1,12 +1,12 @@
 -- The laws of rows. Assumes nothing.
 --
---   places_none, places_next == an access's places, one by one
---   place_first, place_second == a place in the first page, and one in the second
---   rows_word, rows_half, rows_byte == an access that stays in its page has its bytes in one row
+--   places_none, places_next            == an access's places, one by one
+--   place_first, place_second           == a place in the first page, and one in the second
+--   rows_word, rows_half, rows_byte     == an access that stays in its page has its bytes in one row
 --   word_loaded, word_stored, word_left == a load and a store of a word inside its page, over a good map
---   rows_page           == so the second page's address is not looked at
---   physical_row        == a page's bytes lie in a row
---   rows_spots          == an access's bytes are where its state's lookups say, if its pages are
+--   rows_page                           == so the second page's address is not looked at
+--   physical_row                        == a page's bytes lie in a row
+--   rows_spots                          == an access's bytes are where its state's lookups say, if its pages are
 use Rattle.std.specs.Prelude.{◌≡◌, ℕ, zero, suc, ◌+◌, ◌-◌, ◌%◌, ◌^◌, ◌<◌, ◌≤◌, Bool, true, false, cond, [], ◌∷◌, nat_lt}
 use Rattle.std.proofs.Math.Path.{refl}
 use Rattle.std.proofs.Common.{sym, ap, ◌∙◌, arith}

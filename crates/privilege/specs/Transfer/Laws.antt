@@ -1,15 +1,15 @@
 -- The laws of data access that others use. Assumes nothing.
 --
---   spots_none, spots_next   == an access's addresses, one by one
---   spots_length             == there are as many as the access has bytes
---   physical_off, physical_on == an address that is not translated, and one that is
---   frame_same               == the frame depends on the page alone
+--   spots_none, spots_next        == an access's addresses, one by one
+--   spots_length                  == there are as many as the access has bytes
+--   physical_off, physical_on     == an address that is not translated, and one that is
+--   frame_same                    == the frame depends on the page alone
 --   physical_next, word_spots_lem == inside a page the next byte has the next address, so a word needs one lookup
---   load_number, store_number == a load or store is refused with 2 or 1 alone
---   load_same                == equal maps and equal bytes at the addresses give equal loads
---   store_same               == equal maps give a store equal answers
---   store_map                == a store leaves the map
---   store_both, store_other  == a byte after a store: equal ones stay equal, and one that is at none of the addresses stays
+--   load_number, store_number     == a load or store is refused with 2 or 1 alone
+--   load_same                     == equal maps and equal bytes at the addresses give equal loads
+--   store_same                    == equal maps give a store equal answers
+--   store_map                     == a store leaves the map
+--   store_both, store_other       == a byte after a store: equal ones stay equal, and one that is at none of the addresses stays
 use Rattle.std.specs.Prelude.{◌≡◌, ℕ, zero, suc, ◌+◌, ◌/◌, ◌%◌, ◌^◌, ◌<◌, ◌≤◌, Bool, true, false, cond, ◌≢◌, List, [], ◌∷◌, length}
 use Rattle.std.proofs.Math.Path.{refl}
 use Rattle.std.proofs.Common.{ap, ◌∙◌, arith}

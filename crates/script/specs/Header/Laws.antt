@@ -1,9 +1,9 @@
 -- What a good header promises to the runner above, without opening the definitions. Assumes nothing.
 --
---   Sound s h      == the header is the script's, its numbers are within their limits, its map is good, and each event and each byte
---                     of the image lies within the script
---   good_sound     == of a good script the header is sound
---   image_is       == then the copied image is the script's image section as it stands
+--   Sound s h                 == the header is the script's, its numbers are within their limits, its map is good, and each event and each byte
+--                                of the image lies within the script
+--   good_sound                == of a good script the header is sound
+--   image_is                  == then the copied image is the script's image section as it stands
 --   image_fits, memory_length == the image fits the runner's memory, and the front of that is as long as the image
 use Rattle.std.specs.Prelude.{◌≡◌, ℕ, zero, suc, ◌+◌, ◌%◌, ◌<◌, ◌≤◌, Bool, true, false, cond, ◌&&◌, List, length, take, drop, replicate, refl}
 use Rattle.std.proofs.Common.{sym, ◌∙◌, arith, length-take-le, leb-true, eqb-true, ne_eqb}

@@ -1,10 +1,10 @@
 -- The laws of an image's bytes. Assumes nothing.
 --
---   bytes_none       == none of them
---   bytes_length     == there are as many as asked for
---   bytes_get_d       == byte k is the script's byte at place `at + k`
---   bytes_last       == one byte more
---   bytes_inside     == within the script they are its bytes as they stand there
+--   bytes_none   == none of them
+--   bytes_length == there are as many as asked for
+--   bytes_get_d  == byte k is the script's byte at place `at + k`
+--   bytes_last   == one byte more
+--   bytes_inside == within the script they are its bytes as they stand there
 use Rattle.std.specs.Prelude.{◌≡◌, ℕ, zero, suc, ◌+◌, ◌<◌, ◌≤◌, List, [], ◌∷◌, ◌++◌, length, take, drop, slice_index}
 use Rattle.std.proofs.Math.Path.{refl, ap}
 use Rattle.std.proofs.Common.{◌∙◌, add-zero, drop-cons}

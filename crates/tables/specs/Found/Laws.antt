@@ -1,13 +1,13 @@
 -- The laws of what is found in the written tables. Assumes nothing. Those that rest on the words of level 1 are in proofs/Found.antt.
 --
---   image_size, in_map      == the image of an accepted call has a word for each place of the needed frames, which lie in the map
---   ByPage, by_page         == a page is absent from a list, or present
---   listed_good, listed_once      == what is listed is good, and its page is listed once
---   FromList                == an entry comes from a list
---   entry_listed            == a walk that meets a listed page's leaf finds its entry
---   bytes_outside           == the bytes outside the used frames
---   pages_ascend, directory_low   == the directories of the list
---   answer_ptbr, answer_used, written_memory      == what a call that was not refused answered and wrote
+--   image_size, in_map                       == the image of an accepted call has a word for each place of the needed frames, which lie in the map
+--   ByPage, by_page                          == a page is absent from a list, or present
+--   listed_good, listed_once                 == what is listed is good, and its page is listed once
+--   FromList                                 == an entry comes from a list
+--   entry_listed                             == a walk that meets a listed page's leaf finds its entry
+--   bytes_outside                            == the bytes outside the used frames
+--   pages_ascend, directory_low              == the directories of the list
+--   answer_ptbr, answer_used, written_memory == what a call that was not refused answered and wrote
 use Rattle.std.specs.Prelude.{ℕ, ◌+◌, ◌*◌, ◌/◌, ◌^◌, ◌≤◌, ◌<◌, ◌≡◌, refl, List, [], ◌∷◌, ◌++◌, leb, eqb}
 use Rattle.std.proofs.Math.Path.{sym, ap}
 use Rattle.std.proofs.Common.{◌∙◌, inl, inr, ⊎_elim, leb-true, eq-eqb, ne_eqb, le-leb}

@@ -1,11 +1,11 @@
 -- The laws of mappings and of their list. Assumes nothing.
 --
---   good-lengths, good_short, good_ascending      == what a good list is
---   mapping_next       == the list from place k on starts with the mapping at k
---   pages_of           == the pages of the mappings are the list of pages
---   page_low, frame_low, bits-listed, leaf_accepted      == what a good mapping is
---   ascending_at, ascending_pairs, pairs_ascending      == ascending, by the places in the list
---   leaf_above         == a list of higher pages has no leaf for a page
+--   good_short, good_ppns, good_bits_lem, good_ascending      == what a good list is
+--   mapping_next                                              == the list from place k on starts with the mapping at k
+--   pages_of                                                  == the pages of the mappings are the list of pages
+--   page_low, frame_low, bits_even, bits_small, leaf_accepted == what a good mapping is
+--   ascending_at, ascending_pairs, pairs_ascending            == ascending, by the places in the list
+--   leaf_above                                                == a list of higher pages has no leaf for a page
 use Rattle.std.specs.Prelude.{ℕ, zero, suc, ◌+◌, ◌*◌, ◌%◌, ◌≤◌, ◌<◌, ◌≡◌, refl, Bool, true, false, ◌&&◌, List, [], ◌∷◌, map, leb, ltb, eqb, length, get_or, drop}
 use Rattle.std.proofs.Common.{sym, ap, ◌∙◌, add-one, arith, drop_of_length-le, leb-true, ltb-true, eqb-true, le-leb, ne_eqb}
 use Rattle.std.proofs.lemmas.List.{length-map}

@@ -1,11 +1,11 @@
 -- The laws of the tables. Assumes nothing.
 --
---   Accepted, accepted      == what a call is that is not refused
---   run_covered             == a good run of at least one frame lies in the map
---   run_aligned, run_starts, some_frame, frames_in, frames_low       == the run of an accepted call, and its needed frames
---   level1_size, level1_at, level2_size, level2_at, tables_size      == the words of the tables
---   Placed                  == where a page's leaf stands; proofs/Frames.antt has placed, that it stands so
---   directories_ascend, directories_small       == the directories of ascending pages
+--   Accepted, accepted                                          == what a call is that is not refused
+--   run_covered                                                 == a good run of at least one frame lies in the map
+--   run_aligned, run_starts, some_frame, frames_in, frames_low  == the run of an accepted call, and its needed frames
+--   level1_size, level1_at, level2_size, level2_at, tables_size == the words of the tables
+--   Placed                                                      == where a page's leaf stands; proofs/Frames.antt has placed, that it stands so
+--   directories_ascend, directories_small                       == the directories of ascending pages
 use Rattle.std.specs.Prelude.{ℕ, ◌+◌, ◌*◌, ◌/◌, ◌%◌, ◌^◌, ◌≤◌, ◌<◌, ◌≡◌, refl, Bool, true, false, cond, ◌&&◌, ◌||◌, List, [], ◌∷◌, ◌++◌, leb, eqb, get_or}
 use Rattle.std.proofs.Common.{sym, ◌∙◌, ⊎_elim, length-append}
 use Rattle.std.proofs.Math.Path.{ap}

@@ -1,14 +1,14 @@
 -- The laws of words in lent memory. Assumes nothing.
 --
---   lent_word, lent_words            == words written at a base keep the base
---   put_word_map, put_words_map      == the map stays
---   put_word_is          == a word is its four bytes, one written after the other
---   words_next           == the first of several words
---   put_words_append     == words, and then more words
---   words_length, words_at           == how many words there are, and which
---   words_other          == bytes before and after the words stay
---   word_back            == each word is read back
---   words_same           == the bytes of the words do not depend on what stood there
+--   lent_word, lent_words       == words written at a base keep the base
+--   put_word_map, put_words_map == the map stays
+--   put_word_is                 == a word is its four bytes, one written after the other
+--   words_next                  == the first of several words
+--   put_words_append            == words, and then more words
+--   words_length, words_at      == how many words there are, and which
+--   words_other                 == bytes before and after the words stay
+--   word_back                   == each word is read back
+--   words_same                  == the bytes of the words do not depend on what stood there
 use Rattle.std.specs.Prelude.{ℕ, zero, suc, ◌+◌, ◌-◌, ◌*◌, ◌/◌, ◌%◌, ◌^◌, ◌≤◌, ◌<◌, ◌≡◌, refl, true, List, [], ◌∷◌, ◌++◌, ◌⊎◌, length, get_or}
 use Rattle.std.proofs.Common.{sym, ap, ◌∙◌, inl, inr, ⊎_elim, arith}
 use Rattle.common.specs.Bytes.{bytes_of, big_endian, bytes_four}

@@ -1,8 +1,8 @@
 -- The laws of a memory that is given by its words. Assumes nothing.
 --
---   as_read w                 == a word as it is read: what passes 32 bits is dropped
---   byte_in l a, word_in l i   == the byte at a, and word i, of the words l; 0 where l has none
---   content_in p l a          == the byte at a of p pages
+--   as_read w                == a word as it is read: what passes 32 bits is dropped
+--   byte_in l a, word_in l i == the byte at a, and word i, of the words l; 0 where l has none
+--   content_in p l a         == the byte at a of p pages
 --   laid_good, laid_inside   == the map
 --   laid_byte, laid_read     == a byte, and what is read, computed from the list alone
 --   laid_word                == a word that is read is word i of the list

@@ -10,16 +10,16 @@ pub loop-k-init : goal.loop-k-init
 loop-k-init c = (refl, search rules, search rules)
 
 pub overflow_cast-vpn : goal.overflow_cast-vpn
-overflow_cast-vpn c = omega (arith, c.shared_slice_known-1.given c.loop-k.k)
+overflow_cast-vpn c = omega (arith, c.type_inv.vpns c.loop-k.k)
 
 pub returns-then-vpn-least : goal.returns-then-vpn-least
 returns-then-vpn-least c = search order_broken
 
 pub overflow_add-least : goal.overflow_add-least
-overflow_add-least c = omega (arith, c.shared_slice_known-1.given c.loop-k.k)
+overflow_add-least c = omega (arith, c.type_inv.vpns c.loop-k.k)
 
 pub loop-k-preserved : goal.loop-k-preserved
-loop-k-preserved c = (search order_kept, search rules, omega (arith, c.shared_slice_known-1.given c.loop-k.k))
+loop-k-preserved c = (search order_kept, search rules, omega (arith, c.type_inv.vpns c.loop-k.k))
 
 pub returns : goal.returns
 returns c = search order_done

@@ -19,7 +19,7 @@ pub write_table-requires : goal.write_table-requires
 write_table-requires c =
     let l = c.loop-k in
     let room = room_here _ l.frame 0 _ _ _ l.invariant.1 c.loop-k-test.true c.if-directory-last.true in
-    let page = c.shared_slice_known-in-loop-k-1.given l.k in
+    let page = c.type_inv.vpns l.k in
     (search rules, omega arith, omega arith)
 
 pub loop-k-preserved : goal.loop-k-preserved
