@@ -6,11 +6,12 @@
 --   state_numbers s reg            == a privilege state and the registers, ready to cross
 --   translated_numbers t           == a debugger's translation
 --   view_numbers v                 == one slot's view
-use Rattle.std.specs.Prelude.{ℕ, Bool, true, false, List, [], ◌∷◌, get_or}
+use Rattle.std.specs.Prelude.{ℕ, Bool, true, false, List, [], ◌∷◌, get_or, Result, Ok, Err}
 use Rattle.common.specs.Refusal.{refusal_number}
 use Rattle.privilege.specs.State.{is_short, mode_of, no_region}
+use Rattle.common.specs.declared.Refusal.{Refusal}
+use Rattle.privilege.specs.declared.debug.DebugTranslation.TheVariants.{Mapped, Unmapped, BusError}
 use Rattle.privilege.specs.declared.debug.DebugTranslation.{DebugTranslation}
-use Rattle.privilege.specs.declared.debug.DebugTranslation.TheVariants.{Mapped, Unmapped, BusError, Refused}
 use Rattle.privilege.specs.declared.debug.TlbEntryView.{TlbEntryView}
 use Rattle.privilege.specs.declared.debug.TlbFlags.{TlbFlags}
 use Rattle.privilege.specs.declared.region.Region.{Region}
@@ -99,11 +100,11 @@ mapped_numbers physical flags inTlb =
       physical = physical;
     }
 
-unfoldable pub translated_numbers : DebugTranslation → PrivilegeTranslated
-translated_numbers (Mapped physical flags inTlb) = mapped_numbers physical flags inTlb
-translated_numbers Unmapped = unmapped 0 false
-translated_numbers BusError = unmapped 0 true
-translated_numbers (Refused r) = unmapped (refusal_number r) false
+unfoldable pub translated_numbers : Result DebugTranslation Refusal → PrivilegeTranslated
+translated_numbers (Ok (Mapped physical flags inTlb)) = mapped_numbers physical flags inTlb
+translated_numbers (Ok Unmapped) = unmapped 0 false
+translated_numbers (Ok BusError) = unmapped 0 true
+translated_numbers (Err r) = unmapped (refusal_number r) false
 
 unfoldable pub view_numbers : TlbEntryView → PrivilegeSlot
 view_numbers v =

@@ -7,6 +7,7 @@ ghost use Rattle.bridge.specs.Mmu.{access_of};
 use crate::mmu_calls::access_of;
 use mmu::exception::{Access, Exception, Vector};
 
+#[tactic(auto, unfolding(crate::specs::Exception::exception_of))]
 fn exception_of(number: u32, imm: u16, access: Access, protection: bool, addr: u32) -> Exception
     ensures { result ≡ exception_of number imm access protection addr }
 {
@@ -24,14 +25,11 @@ fn exception_of(number: u32, imm: u16, access: Access, protection: bool, addr: u
     }
 }
 
+#[tactic(auto, unfolding(crate::specs::Exception::vector_number))]
 fn vector_number(vector: Vector) -> u32
     ensures { result ≡ vector_number vector }
 {
-    match vector {
-        Vector::Illegal => 0,
-        Vector::Bus => 1,
-        Vector::Syscall => 2,
-    }
+    vector as u32
 }
 
 #[unsafe(no_mangle)]

@@ -22,6 +22,7 @@ pub struct MachineLine {
 }
 
 #[unsafe(no_mangle)]
+#[tactic(auto, using(crate::proofs::Lent::started))]
 pub extern "C" fn machine_start(state: &mut [u32; 659], base: u32, len: u32, miss_penalty: u32)
     ensures { machine_at state.new ≡ new_machine base len miss_penalty }
 {

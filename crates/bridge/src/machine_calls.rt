@@ -35,6 +35,7 @@ pub struct MachineStepped {
     pub reads: u32,
 }
 
+#[tactic(auto, unfolding(crate::specs::Machine::machine_of))]
 fn machine_of(p: MachineState) -> Machine
     ensures { result ≡ machine_of p }
 {
@@ -50,6 +51,7 @@ fn machine_of(p: MachineState) -> Machine
     }
 }
 
+#[tactic(auto, unfolding(crate::specs::Machine::machine_numbers))]
 fn machine_numbers(m: Machine) -> MachineState
     ensures { result ≡ machine_numbers m }
 {
@@ -64,6 +66,7 @@ fn machine_numbers(m: Machine) -> MachineState
     }
 }
 
+#[tactic(auto, unfolding(crate::specs::Machine::step_numbers))]
 fn step_numbers(s: Stepped) -> MachineStepped
     ensures { result ≡ step_numbers s }
 {

@@ -7,11 +7,10 @@ ghost use Rattle.mmu.specs.Walk.{walk_of};
 ghost use Rattle.mmu.specs.Check.{check_each, pages_of};
 ghost use Rattle.bridge.specs.Mmu.{access_of, cause_number, address_of, fault_address, checked_numbers, slot_number, walked_numbers};
 
-use mmu::check::Verdict;
 use mmu::exception::{Access, Exception};
-use mmu::tlb::{Slot, TLB_ENTRIES, TlbEntry};
+use mmu::tlb::{TLB_ENTRIES, TlbEntry};
 use mmu::vm::Vm;
-use mmu::walk::{Walked, walk};
+use mmu::walk::{WalkFault, walk};
 
 // A check's answer: CAUSE is 0 where the access is allowed, and the address is a page fault's, else 0.
 #[repr(C)]
@@ -33,6 +32,7 @@ pub struct MmuWalked {
 }
 
 // 0 reads, 1 writes, any other fetches.
+#[tactic(auto, unfolding(crate::specs::Mmu::access_of))]
 pub fn access_of(number: u32) -> Access
     ensures { result ≡ access_of number }
 {
@@ -43,39 +43,34 @@ pub fn access_of(number: u32) -> Access
     }
 }
 
-fn cause_number(verdict: Verdict) -> u32
+#[tactic(auto, unfolding(crate::specs::Mmu::cause_number))]
+fn cause_number(verdict: Result<(), Exception>) -> u32
     ensures { result ≡ cause_number verdict }
 {
     match verdict {
-        Verdict::Allowed => 0,
-        Verdict::Denied(e) => e.cause(),
+        Ok(()) => 0,
+        Err(e) => e.cause(),
     }
 }
 
 // The address that a page fault carries.
+#[tactic(auto, unfolding(crate::specs::Mmu::address_of))]
 fn address_of(e: Exception) -> u32
     ensures { result ≡ address_of e }
 {
     match e {
-        Exception::IllegalInstruction => 0,
-        Exception::BusError => 0,
-        Exception::Syscall(_) => 0,
-        Exception::PrivilegedInstruction => 0,
-        Exception::ProtectionFault(_) => 0,
-        Exception::PageFault {
-            access: _,
-            protection: _,
-            addr,
-        } => addr,
+        Exception::PageFault { addr, .. } => addr,
+        _ => 0,
     }
 }
 
-fn fault_address(verdict: Verdict) -> u32
+#[tactic(auto, unfolding(crate::specs::Mmu::fault_address))]
+fn fault_address(verdict: Result<(), Exception>) -> u32
     ensures { result ≡ fault_address verdict }
 {
     match verdict {
-        Verdict::Allowed => 0,
-        Verdict::Denied(e) => address_of(e),
+        Ok(()) => 0,
+        Err(e) => address_of(e),
     }
 }
 
@@ -102,17 +97,15 @@ pub extern "C" fn mmu_invalidate(vm: Vm, va: u32) -> Vm
 
 // The slot of a page, 16 where it is not resident.
 #[unsafe(no_mangle)]
+#[tactic(auto, unfolding(crate::specs::Mmu::slot_number))]
 pub extern "C" fn mmu_lookup(vm: Vm, vpn: u32) -> usize
     ensures { result ≡ slot_number (first_match vpn 0 vm.tlb) }
 {
-    let slot = vm.lookup(vpn);
-    match slot {
-        Slot::At(i) => i,
-        Slot::Nothing => TLB_ENTRIES,
-    }
+    vm.lookup(vpn).unwrap_or(TLB_ENTRIES)
 }
 
 #[unsafe(no_mangle)]
+#[tactic(auto, unfolding(crate::specs::Mmu::walked_by))]
 pub extern "C" fn mmu_walk(mem: &[u8], base: u32, ptbr: u32, va: u32) -> MmuWalked
     ensures { result ≡ walked_numbers (walk_of (lent base mem.now) ptbr va) }
 {
@@ -125,17 +118,17 @@ pub extern "C" fn mmu_walk(mem: &[u8], base: u32, ptbr: u32, va: u32) -> MmuWalk
     let answer = walk(mem, base, ptbr, va);
     let walked = answer.walked;
     match walked {
-        Walked::Leaf(entry) => MmuWalked {
+        Ok(entry) => MmuWalked {
             entry,
             bus_error: false,
             reads: answer.reads,
         },
-        Walked::Missing => MmuWalked {
+        Err(WalkFault::Missing) => MmuWalked {
             entry: none,
             bus_error: false,
             reads: answer.reads,
         },
-        Walked::BusError => MmuWalked {
+        Err(WalkFault::BusError) => MmuWalked {
             entry: none,
             bus_error: true,
             reads: answer.reads,
@@ -143,6 +136,7 @@ pub extern "C" fn mmu_walk(mem: &[u8], base: u32, ptbr: u32, va: u32) -> MmuWalk
     }
 }
 
+#[tactic(auto, unfolding(crate::specs::Mmu::checked_numbers))]
 #[unsafe(no_mangle)]
 pub extern "C" fn mmu_check(
     vm: Vm,

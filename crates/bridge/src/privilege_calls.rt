@@ -4,15 +4,15 @@ ghost use Rattle.std.specs.Prelude.{◌≡◌};
 ghost use Rattle.memory.specs.Memory.{lent};
 ghost use Rattle.privilege.specs.Access.{allows_of};
 ghost use Rattle.privilege.specs.Debug.{debug_translated, slot_view};
-ghost use Rattle.privilege.specs.State.{is_short};
 ghost use Rattle.bridge.specs.Mmu.{access_of};
 ghost use Rattle.bridge.specs.Privilege.{regions_of, starts_of, ends_of, flags_of, state_of, state_numbers, unmapped, mapped_numbers, translated_numbers, view_numbers};
 
 use crate::mmu_calls::access_of;
+use common::Refusal;
 use mmu::vm::Vm;
 use privilege::debug::{DebugTranslation, TlbEntryView, TlbFlags};
 use privilege::region::Region;
-use privilege::state::{InstructionMode, SystemState, mode_of};
+use privilege::state::{SystemState, is_short, mode_of};
 
 // `short` is the instruction mode that IRET restores; region n has `starts[n]`, `ends[n]` and `flags[n]`.
 #[repr(C)]
@@ -33,15 +33,7 @@ pub struct PrivilegeState {
     pub reg: [u32; 32],
 }
 
-fn is_short(mode: InstructionMode) -> bool
-    ensures { result ≡ is_short mode }
-{
-    match mode {
-        InstructionMode::Normal => false,
-        InstructionMode::Short => true,
-    }
-}
-
+// One by one: `array::from_fn` says of its elements that they came from the closure, and not from which of the three lists.
 fn regions_of(s: [u32; 8], e: [u32; 8], f: [u32; 8]) -> [Region; 8]
     ensures { result ≡ regions_of s e f }
 {
@@ -92,30 +84,23 @@ fn regions_of(s: [u32; 8], e: [u32; 8], f: [u32; 8]) -> [Region; 8]
 fn starts_of(l: [Region; 8]) -> [u32; 8]
     ensures { result ≡ starts_of l }
 {
-    [
-        l[0].start, l[1].start, l[2].start, l[3].start, l[4].start, l[5].start, l[6].start,
-        l[7].start,
-    ]
+    l.map(|region| region.start)
 }
 
 fn ends_of(l: [Region; 8]) -> [u32; 8]
     ensures { result ≡ ends_of l }
 {
-    [
-        l[0].end, l[1].end, l[2].end, l[3].end, l[4].end, l[5].end, l[6].end, l[7].end,
-    ]
+    l.map(|region| region.end)
 }
 
 fn flags_of(l: [Region; 8]) -> [u32; 8]
     ensures { result ≡ flags_of l }
 {
-    [
-        l[0].flags, l[1].flags, l[2].flags, l[3].flags, l[4].flags, l[5].flags, l[6].flags,
-        l[7].flags,
-    ]
+    l.map(|region| region.flags)
 }
 
 // The state that has crossed.
+#[tactic(auto, unfolding(crate::specs::Privilege::state_of))]
 pub fn state_of(p: PrivilegeState) -> SystemState
     ensures { result ≡ state_of p }
 {
@@ -139,6 +124,7 @@ pub fn state_of(p: PrivilegeState) -> SystemState
 }
 
 // A state and the registers, ready to cross.
+#[tactic(auto, unfolding(crate::specs::Privilege::state_numbers))]
 pub fn state_numbers(s: SystemState, reg: [u32; 32]) -> PrivilegeState
     ensures { result ≡ state_numbers s reg }
 {
@@ -224,21 +210,25 @@ fn mapped_numbers(physical: u32, flags: TlbFlags, in_tlb: bool) -> PrivilegeTran
     }
 }
 
-fn translated_numbers(t: DebugTranslation) -> PrivilegeTranslated
+#[tactic(auto, unfolding(crate::specs::Privilege::translated_numbers))]
+fn translated_numbers(t: Result<DebugTranslation, Refusal>) -> PrivilegeTranslated
     ensures { result ≡ translated_numbers t }
 {
     match t {
-        DebugTranslation::Mapped {
-            physical,
-            flags,
-            in_tlb,
-        } => mapped_numbers(physical, flags, in_tlb),
-        DebugTranslation::Unmapped => unmapped_numbers(0, false),
-        DebugTranslation::BusError => unmapped_numbers(0, true),
-        DebugTranslation::Refused(r) => unmapped_numbers(r.number(), false),
+        Ok(
+            DebugTranslation::Mapped {
+                physical,
+                flags,
+                in_tlb,
+            },
+        ) => mapped_numbers(physical, flags, in_tlb),
+        Ok(DebugTranslation::Unmapped) => unmapped_numbers(0, false),
+        Ok(DebugTranslation::BusError) => unmapped_numbers(0, true),
+        Err(r) => unmapped_numbers(r.number(), false),
     }
 }
 
+#[tactic(auto, unfolding(crate::specs::Privilege::view_numbers))]
 fn view_numbers(v: TlbEntryView) -> PrivilegeSlot
     ensures { result ≡ view_numbers v }
 {

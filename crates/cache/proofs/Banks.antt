@@ -1,6 +1,6 @@
 -- What each way through a bank's functions leaves is what the definition says. Assumes nothing.
 use Rattle.std.proofs.Common.{◌≡◌, ℕ, ◌+◌, ◌%◌, ◌^◌, Bool, true, false, cond, not, get_or, set, sym, refl, ap, ◌∙◌, eq-eqb, ne_eqb}
-use mathlib.Core.Bool.{beq}
+use Rattle.std.specs.Bool.{beq}
 use Rattle.common.specs.Cases.{absurd_eq}
 use Rattle.cache.specs.Bank.{index_of, tag_of, no_tag, no_tags, with_tags, accessed, line_dropped, emptied, enabled_to, stats_cleared, controlled}
 use Rattle.cache.specs.declared.Bank.{Bank}
@@ -75,10 +75,4 @@ module _ (b x : Bank) (on drop clear : Bool) (ex : x ≡ enabled_to b on) where
   unfolding controlled
   control_none p q = ex ∙ simp (p, q)
 
-pub ruleset accesses = (access_hit, access_miss)
-
-pub ruleset drops = (drop_held, drop_other)
-
 pub ruleset enables = (enable_changed, enable_kept)
-
-pub ruleset controls = (control_both, control_drop, control_clear, control_none)

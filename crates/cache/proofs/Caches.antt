@@ -1,41 +1,19 @@
 -- What each way through the cache's functions leaves is what the definition says. Assumes nothing.
-use Rattle.std.proofs.Common.{◌≡◌, ℕ, ◌*◌, ◌^◌, ◌<◌, Bool, true, false, not, eqb, sym, refl, ◌∙◌, ap₂, arith, w32, Fits, ne_eqb}
+use Rattle.std.proofs.Common.{◌≡◌, ℕ, ◌*◌, ◌^◌, ◌<◌, Bool, true, false, not, eqb, sym, refl, ◌∙◌, ap₂, arith, w32, Fits, ne_eqb, bit_and, bit_or}
 use mathlib.Core.Bool.{and-false}
-use borrow.Author.Tests.{not-true, not-false}
-use lib.Bits.{bit_and, bit_or}
 use mir.Val.{bool_byte}
 use Rattle.common.specs.Bits.Laws.{flag_is}
-use Rattle.cache.specs.Bank.{accessed, line_dropped, controlled}
-use Rattle.cache.specs.Cache.{with_banks, cacheable_at, bank_after, cost_of, stall_after, fetched, loaded, stored, enable_bits, reg_written}
+use Rattle.cache.specs.Bank.{line_dropped, controlled}
+use Rattle.cache.specs.Cache.{with_banks, cacheable_at, bank_after, stall_after, fetched, loaded, stored, enable_bits, reg_written}
 use Rattle.cache.specs.declared.Bank.{Bank}
-use Rattle.cache.specs.declared.BankAccess.{BankAccess}
 use Rattle.cache.specs.declared.L1Cache.{L1Cache}
 use Rattle.cache.specs.declared.CacheAccess.{CacheAccess}
 
--- ---- a load or fetch, of its bank b: the bank is off; the address is not cacheable; an access
+-- ---- a load or fetch, of its bank b
 
 pub record Served (c : L1Cache) (b : Bank) (pa : ℕ) (after : Bank) (cost : ℕ) : Type 0 where
   pub bank : after ≡ bank_after c b pa
   pub stall : cost ≡ stall_after c b pa
-
-module _ (c : L1Cache) (b : Bank) (pa : ℕ) where
-  pub served_off : not b.enabled ≡ true → Served c b pa b 0
-  served_off p = record { bank = simp (not-true b.enabled p); stall = simp (not-true b.enabled p) }
-
-  pub served_out : (r : Bool) → not b.enabled ≡ false → r ≡ cacheable_at c pa → not r ≡ true → Served c b pa b 0
-  served_out r p e q =
-      record {
-        bank = simp (not-false b.enabled p, sym e, not-true r q);
-        stall = simp (not-false b.enabled p, sym e, not-true r q);
-      }
-
-  pub served_in : (r : Bool) (a : BankAccess) (n : ℕ) → not b.enabled ≡ false → r ≡ cacheable_at c pa → not r ≡ false → a ≡ accessed b pa
-      → n ≡ cost_of a.hit c.miss_penalty → Served c b pa a.bank n
-  served_in r a n p e q g k =
-      record {
-        bank = simp (not-false b.enabled p, sym e, not-false r q, sym g);
-        stall = k ∙ simp (not-false b.enabled p, sym e, not-false r q, sym g);
-      }
 
 pub load_served : (c : L1Cache) (pa : ℕ) (after : Bank) (cost : ℕ) → Served c c.d pa after cost
     → ◌≡◌ {A = CacheAccess} (record { cache = with_banks c c.i after; stall = cost }) (loaded c pa)
@@ -46,17 +24,6 @@ pub fetch_served : (c : L1Cache) (pa : ℕ) (after : Bank) (cost : ℕ) → Serv
     → ◌≡◌ {A = CacheAccess} (record { cache = with_banks c after c.d; stall = cost }) (fetched c pa)
 unfolding fetched
 fetch_served c pa after cost s = ap₂ (λ (b : Bank) (n : ℕ). record { cache = with_banks c b c.d; stall = n }) s.bank s.stall
-
--- the cache is left as it was
-pub load_kept : (c : L1Cache) (pa : ℕ) → Served c c.d pa c.d 0 → ◌≡◌ {A = CacheAccess} (record { cache = c; stall = 0 }) (loaded c pa)
-load_kept c pa = load_served c pa c.d 0
-
-pub fetch_kept : (c : L1Cache) (pa : ℕ) → Served c c.i pa c.i 0 → ◌≡◌ {A = CacheAccess} (record { cache = c; stall = 0 }) (fetched c pa)
-fetch_kept c pa = fetch_served c pa c.i 0
-
-pub ruleset loads = (load_kept, load_served, served_off, served_out, served_in)
-
-pub ruleset fetches = (fetch_kept, fetch_served, served_off, served_out, served_in)
 
 -- an access outside the range costs nothing and changes nothing
 module _ (c : L1Cache) (pa : ℕ) (e : cacheable_at c pa ≡ false) where
@@ -78,8 +45,6 @@ store_in c pa r b e t g = simp (sym e, t, g)
 pub store_out : (c : L1Cache) (pa : ℕ) (r : Bool) → r ≡ cacheable_at c pa → r ≡ false → c ≡ stored c pa
 unfolding stored
 store_out c pa r e t = simp (sym e, t)
-
-pub ruleset stores = (store_in, store_out)
 
 -- ---- the registers
 

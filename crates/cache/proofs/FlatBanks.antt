@@ -1,6 +1,6 @@
 -- What each way through the functions over a bank's words leaves is what the definition says. Assumes nothing.
 use Rattle.std.proofs.Common.{◌≡◌, ℕ, ◌+◌, ◌%◌, ◌^◌, ◌<◌, ◌≤◌, Bool, true, false, cond, not, eqb, List, length, get_or, set, sym, refl, ap, ◌∙◌, arith, length-set, get_or-set_other, get_or-set_same, eq-eqb, ne_eqb}
-use mathlib.Core.Bool.{beq}
+use Rattle.std.specs.Bool.{beq}
 use mir.Val.{bool_byte}
 use Rattle.layout.specs.Words.{part, put, on_at, part_length, part_get, part_set_in, part_set_below, put_below, put_same}
 use Rattle.cache.specs.Bank.{index_of, tag_of, no_tag, with_tags, accessed, line_dropped, emptied, enabled_to, stats_cleared, swept_tags, swept, line_of, line_stop}

@@ -1,10 +1,10 @@
 -- What each way through the functions over the cache's words leaves is what the definition says. Assumes nothing.
 use Rattle.std.proofs.Common.{◌≡◌, ℕ, ◌+◌, ◌%◌, ◌≤◌, Bool, true, false, cond, ◌&&◌, eqb, List, length, get_or, set, sym, refl, ap, ◌∙◌, ap₂, arith, length-set, get_or-set_other, get_or-set_same}
 use mathlib.Core.Bool.{and-true}
-use Rattle.layout.specs.Words.{part, put, part_length, part_get, part_set_below, put_length, put_same, put_below, put_above, Reads, over_all, reads_all}
+use Rattle.layout.specs.Words.{part, put, part_length, part_get, part_set_below, put_length, put_same, put_below, put_above, Reads, over_none, over_all, reads_all}
 use Rattle.cache.specs.Bank.{accessed, new_bank, line_of, line_stop, line_dropped, controlled, swept}
 use Rattle.cache.specs.Cache.{with_banks, new_cache, saturated, range_has, cacheable_at, counts, cost_of, reset_of, fetched, loaded, stored, external_written, enable_bits, ctrl_word, register_at, reg_read, reg_written}
-use Rattle.cache.specs.Flat.{bank_words, i_word, d_word, cache_words, bank_at, cache_at, Touches, Costs, Changes}
+use Rattle.cache.specs.Flat.{bank_words, i_word, d_word, cache_words, bank_at, cache_at, Touches, Costs, Accesses, Changes}
 use Rattle.cache.specs.declared.Bank.{Bank}
 use Rattle.cache.specs.declared.L1Cache.{L1Cache}
 use Rattle.cache.proofs.Caches.{Served, load_served, fetch_served, load_outside, fetch_outside, store_in as line-gone, store_out as Line-kept, masked, control_written, other_written}
@@ -110,7 +110,22 @@ module _ (l : List ℕ) (long : length l ≡ cache_words) (pa : ℕ) (t : Bool) 
           (i_put l new long i_long
           ∙ line-gone (cache_at l) pa t (bank_at new) (sym (cacheable_is l pa t t et refl)) q (e ∙ ap (λ (b : Bank). line_dropped b pa) (i_at l)))
 
-pub ruleset accesses = (load_out, load_in, fetch_out, fetch_in, store_out, store_in)
+-- in either bank
+pub access_none : (at : ℕ) (l : List ℕ) (pa : ℕ) → (length l ≡ cache_words → ⊥) → Accesses at l l 0 pa
+access_none at l pa h = (λ _. over_none cache_words l 0 0 _ h refl, λ _. over_none cache_words l 0 0 _ h refl)
+
+module _ (at : ℕ) (l : List ℕ) (long : length l ≡ cache_words) (pa : ℕ) (t : Bool) (et : t ≡ range_has (get_or l 0 0) (get_or l 1 0) pa) where
+  pub access_out : t ≡ false → Accesses at l l 0 pa
+  access_out q = (λ _. fetch_out l long pa t et q, λ _. load_out l long pa t et q)
+
+  pub access_in : t ≡ true → (new : List ℕ) (m : ℕ) → m ≡ bank_words → length new ≡ length (part at m l) → (n penalty : ℕ) → penalty ≡ get_or l 2 0
+      → Touches (bank_at (part at m l)) penalty pa (bank_at new) n → Accesses at l (put at m l new) n pa
+  access_in q new m em same n penalty e touches = (
+    λ (p : at ≡ i_word). rw (p, em) (fetch_in l long pa t et q new (rw (p, em) at same) n penalty e (rw (p, em) at touches)),
+    λ (p : at ≡ d_word). rw (p, em) (load_in l long pa t et q new (rw (p, em) at same) n penalty e (rw (p, em) at touches)),
+  )
+
+pub ruleset accesses = (access_none, access_out, access_in, store_out, store_in)
 
 -- ---- both banks' words replaced, one after the other
 

@@ -2,7 +2,7 @@
 -- operations is an induction over it. Assumes nothing.
 use Rattle.std.proofs.Common.{◌≡◌, ℕ, zero, suc, ◌+◌, ◌/◌, ◌%◌, ◌^◌, ◌<◌, ◌≤◌, Bool, true, false, cond, not, ◌&&◌, eqb, List, [], ◌∷◌, ◌++◌, sym, refl, ap, ◌∙◌, ⊎_elim, add-zero, add_assoc, zero-add, arith, lit≤, ne_eqb, eqb-true}
 use native.Mathlib.Nat.{mod-mod}
-use borrow.Author.Tests.{eqb-false, not-true}
+use Rattle.std.proofs.lemmas.Bool.{eqb-false, not-true}
 use Rattle.common.specs.Bits.{bit_set}
 use Rattle.common.specs.Cases.{bool_is, cond_holds, and_left, and_right}
 use Rattle.cache.specs.Bank.{holds, accessed, line_dropped, enabled_to, controlled, swept}

@@ -1,8 +1,10 @@
 -- The byte lanes: the code's masks and shifts are the definition's quotients and remainders. Assumes nothing.
-use Rattle.std.proofs.Common.{◌≡◌, ℕ, zero, suc, ◌+◌, ◌-◌, ◌*◌, ◌/◌, ◌%◌, ◌^◌, ◌<◌, ◌≤◌, sym, ap, ◌∙◌, ap₂, add-zero, mod-lt, arith, lit<, lit≤, pow_pos, shl_exact, shr_lt}
+use Rattle.std.proofs.Common.{◌≡◌, ℕ, zero, suc, ◌+◌, ◌-◌, ◌*◌, ◌/◌, ◌%◌, ◌^◌, ◌<◌, ◌≤◌, sym, ap, ◌∙◌, ap₂, add-zero, mod-lt, arith, lit<, lit≤, pow_pos, shl_exact, shr_lt, bit_and, bit_or}
 use native.Mathlib.Nat.{mod-mod}
 use lib.Pow.{ones_lt, shr_mod, split}
-use lib.Bits.{bit_and, bit_or, and_mask, and_high, and_block, and_le_r, or_block, or_shifted, or_zero_r}
+use Rattle.std.proofs.lemmas.Nat.{and_mask, and_block, and_le_r, or_block, or_shifted}
+use Rattle.std.proofs.lemmas.Nat.Bits.{and_high}
+use lib.Bits.{or_zero_r}
 use Rattle.cache.specs.Cache.{reg_read, word_of, lane_shift, lane_of, with_byte, merged, byte_read, reg_written, byte_written}
 use Rattle.cache.specs.declared.L1Cache.{L1Cache}
 

@@ -1,6 +1,6 @@
 -- Document 01's sentences on the L1 tag cache, proved of the definitions. Assumes nothing.
 use Rattle.std.proofs.Common.{◌≡◌, ℕ, ◌+◌, ◌-◌, ◌*◌, ◌/◌, ◌%◌, ◌^◌, ◌<◌, ◌≤◌, Bool, true, false, cond, not, ◌&&◌, ◌||◌, eqb, ltb, set, sym, refl, ap, ◌∙◌, ⊎_elim, mod-lt, arith, get_or-set_other, get_or-set_same, pow_pos, shr-shr, ltb-false, ltb-true, eq-eqb, ne_eqb}
-use mathlib.Core.Bool.{beq}
+use Rattle.std.specs.Bool.{beq}
 use lib.Arith.{digits_div, digits_mod}
 use lib.Pow.{field, mod-mod-pow}
 use Rattle.common.specs.Bits.{bit_set}

@@ -1,7 +1,7 @@
 -- The sweep of an external write. Its loop counts the lines that it visits, at most 256; the definition drops all. Assumes nothing.
 use Rattle.std.proofs.Common.{◌≡◌, ℕ, zero, suc, ◌+◌, ◌-◌, ◌%◌, ◌<◌, ◌≤◌, true, false, cond, eqb, leb, List, length, get_or, set, replicate, sym, refl, ap, ◌∙◌, ⊎_elim, arith, length-set, get_or-set_other, get_or-set_same, ext_get_or, eqb-true, leb-false, leb-true}
-use borrow.Author.Tests.{eqb-false}
-use lib.ListN.{get_or-replicate}
+use Rattle.std.proofs.lemmas.Bool.{eqb-false}
+use Rattle.std.proofs.lemmas.List.{get_or-replicate}
 use Rattle.common.specs.Cases.{bool_is, cond_holds}
 use Rattle.cache.specs.Bank.{line_of, line_stop, index_of, no_tag, no_tags, with_tags, drop_lines, visited, swept_tags, swept}
 use Rattle.cache.specs.declared.Bank.{Bank}

@@ -6,11 +6,12 @@
 --   cache_at l                  == the cache of words: range, penalty, instruction bank, data bank
 --   Touches b p pa after n      == an access to bank b at a cacheable address takes it to `after` and costs n, where a miss costs p
 --   Costs l l' n a              == a load or fetch takes the words l to l' and costs n, as the access a does
+--   Accesses at l l' n pa       == a load or fetch of pa in the bank that starts at word `at` takes the words l to l' and costs n
 --   Changes l l' c              == the words l' stand for c
 use Rattle.std.specs.Prelude.{◌≡◌, ℕ, ◌+◌, cond, List}
 use Rattle.layout.specs.Words.{part, word_at, on_at, Over}
 use Rattle.cache.specs.Bank.{accessed}
-use Rattle.cache.specs.Cache.{cost_of}
+use Rattle.cache.specs.Cache.{cost_of, fetched, loaded}
 use Rattle.cache.specs.declared.Bank.{Bank}
 use Rattle.cache.specs.declared.L1Cache.{L1Cache}
 use Rattle.cache.specs.declared.CacheAccess.{CacheAccess}
@@ -56,6 +57,11 @@ Touches b penalty pa after n =
 -- a load or fetch takes the cache there, at that cost
 abbrev pub Costs : List ℕ → List ℕ → ℕ → CacheAccess → Type 0
 Costs l l' n a = Over cache_words l l' n 0 (record { cache = cache_at l'; stall = n } ≡ a)
+
+-- in the instruction bank it is a fetch, in the data bank a load
+abbrev pub Accesses : ℕ → List ℕ → List ℕ → ℕ → ℕ → Type 0
+Accesses at l l' n pa =
+    (at ≡ i_word → Costs l l' n (fetched (cache_at l) pa)) × (at ≡ d_word → Costs l l' n (loaded (cache_at l) pa))
 
 -- a function without an answer takes the cache there
 abbrev pub Changes : List ℕ → List ℕ → L1Cache → Type 0

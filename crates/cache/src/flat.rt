@@ -1,15 +1,15 @@
 // The cache as words that an owner lends: a bank has 259, its enable bit, its counts of hits and misses and its tags; the cache has 521, its
 // range, its penalty and the two banks. A function here has the name of the by-value one whose twin it is.
-ghost use Rattle.std.specs.Prelude.{◌≡◌, length};
+ghost use Rattle.std.specs.Prelude.{◌≡◌, ◌+◌, ◌≤◌, length};
 ghost use Rattle.layout.specs.Words.{Reads};
 ghost use Rattle.cache.specs.Bank.{line_of, line_stop, with_tags, line_dropped, emptied, enabled_to, stats_cleared, controlled, swept};
 ghost use Rattle.cache.specs.Cache.{with_banks, new_cache, reset_of, fetched, loaded, stored, external_written, reg_read, reg_written};
-ghost use Rattle.cache.specs.Flat.{bank_words, cache_words, bank_at, cache_at, Touches, Costs, Changes};
+ghost use Rattle.cache.specs.Flat.{bank_words, cache_words, bank_at, cache_at, Touches, Costs, Accesses, Changes};
 
 use crate::sweep::sweep;
 use crate::{
     Bank, CTRL_CLR_STATS, CTRL_D_EN, CTRL_I_EN, CTRL_INV_D, CTRL_INV_I, INVALID, L1Cache,
-    ctrl_word, index_of, register, saturating_add, tag_of, within,
+    ctrl_word, index_of, register, tag_of, within,
 };
 use layout::copy;
 
@@ -38,6 +38,8 @@ const D_BANK: usize = I_BANK + BANK_WORDS;
 pub const CACHE_WORDS: usize = D_BANK + BANK_WORDS;
 
 // ---- a bank
+//
+// Its words come as a slice: as arrays, which `first_chunk_mut` lends, the proof of what two banks write back did not end.
 
 // A load (data bank) or fetch (instruction bank) at a cacheable address: its stall. A hit writes no tag.
 fn touch(bank: &mut [u32], penalty: u32, pa: u32) -> u32
@@ -50,11 +52,11 @@ fn touch(bank: &mut [u32], penalty: u32, pa: u32) -> u32
     let at = TAGS + index_of(pa);
     let tag = tag_of(pa);
     if bank[at] == tag {
-        bank[HITS] = std::num::wrapping_add_u32(bank[HITS], 1);
+        bank[HITS] = bank[HITS].wrapping_add(1);
         return 0;
     }
     bank[at] = tag;
-    bank[MISSES] = std::num::wrapping_add_u32(bank[MISSES], 1);
+    bank[MISSES] = bank[MISSES].wrapping_add(1);
     penalty
 }
 
@@ -72,18 +74,14 @@ fn invalidate_lines(bank: &mut [u32], pa: u32, end: u32)
     requires { length bank.old ≡ bank_words }
     ensures { bank_at bank.new ≡ swept (bank_at bank.old) (line_of pa) (line_stop end) }
 {
-    let a = TAGS;
-    let e = BANK_WORDS;
-    sweep(&mut bank[a..e], pa, end);
+    sweep(&mut bank[TAGS..BANK_WORDS], pa, end);
 }
 
 fn set_tags(bank: &mut [u32], tags: [u32; 256])
     requires { length bank.old ≡ bank_words }
     ensures { bank_at bank.new ≡ with_tags (bank_at bank.old) tags }
 {
-    let a = TAGS;
-    let e = BANK_WORDS;
-    copy(&mut bank[a..e], &tags);
+    copy(&mut bank[TAGS..BANK_WORDS], &tags);
 }
 
 fn invalidate_all(bank: &mut [u32])
@@ -118,10 +116,6 @@ fn control(bank: &mut [u32], enabled: bool, invalidate: bool, clear: bool)
     set_enabled(bank, enabled);
     if invalidate {
         invalidate_all(bank);
-        if clear {
-            clear_stats(bank);
-        }
-        return;
     }
     if clear {
         clear_stats(bank);
@@ -144,9 +138,7 @@ fn unpack_bank(bank: &[u32]) -> Bank
     ensures { result ≡ bank_at bank.now }
 {
     let mut tags = [0u32; 256];
-    let a = TAGS;
-    let e = BANK_WORDS;
-    copy(&mut tags, &bank[a..e]);
+    copy(&mut tags, &bank[TAGS..BANK_WORDS]);
     Bank {
         tags,
         enabled: bank[ENABLED] % 2 == 1,
@@ -157,34 +149,31 @@ fn unpack_bank(bank: &[u32]) -> Bank
 
 // ---- the cache
 
-pub fn load(cache: &mut [u32], pa: u32) -> u32
-    ensures { Costs cache.old cache.new result (loaded (cache_at cache.old) pa) }
+// A load or fetch, in the bank that starts at the word `AT`: its stall.
+fn access<const AT: usize>(cache: &mut [u32], pa: u32) -> u32
+    requires { AT + bank_words ≤ cache_words }
+    ensures { Accesses AT cache.old cache.new result pa }
 {
     if cache.len() != CACHE_WORDS {
         return 0;
     }
     if within(cache[RAM_START], cache[RAM_END], pa) {
         let penalty = cache[MISS_PENALTY];
-        let a = D_BANK;
-        let e = CACHE_WORDS;
-        return touch(&mut cache[a..e], penalty, pa);
+        return touch(&mut cache[AT..AT + BANK_WORDS], penalty, pa);
     }
     0
+}
+
+pub fn load(cache: &mut [u32], pa: u32) -> u32
+    ensures { Costs cache.old cache.new result (loaded (cache_at cache.old) pa) }
+{
+    access::<D_BANK>(cache, pa)
 }
 
 pub fn fetch(cache: &mut [u32], pa: u32) -> u32
     ensures { Costs cache.old cache.new result (fetched (cache_at cache.old) pa) }
 {
-    if cache.len() != CACHE_WORDS {
-        return 0;
-    }
-    if within(cache[RAM_START], cache[RAM_END], pa) {
-        let penalty = cache[MISS_PENALTY];
-        let a = I_BANK;
-        let e = D_BANK;
-        return touch(&mut cache[a..e], penalty, pa);
-    }
-    0
+    access::<I_BANK>(cache, pa)
 }
 
 pub fn store(cache: &mut [u32], pa: u32)
@@ -194,9 +183,7 @@ pub fn store(cache: &mut [u32], pa: u32)
         return;
     }
     if within(cache[RAM_START], cache[RAM_END], pa) {
-        let a = I_BANK;
-        let e = D_BANK;
-        invalidate_line(&mut cache[a..e], pa);
+        invalidate_line(&mut cache[I_BANK..D_BANK], pa);
     }
 }
 
@@ -206,12 +193,9 @@ pub fn external_write(cache: &mut [u32], pa: u32, len: u32)
     if cache.len() != CACHE_WORDS {
         return;
     }
-    let end = saturating_add(pa, len);
-    let i = I_BANK;
-    let d = D_BANK;
-    let e = CACHE_WORDS;
-    invalidate_lines(&mut cache[i..d], pa, end);
-    invalidate_lines(&mut cache[d..e], pa, end);
+    let end = pa.saturating_add(len);
+    invalidate_lines(&mut cache[I_BANK..D_BANK], pa, end);
+    invalidate_lines(&mut cache[D_BANK..CACHE_WORDS], pa, end);
 }
 
 pub fn read_reg(cache: &[u32], offset: u32) -> u32
@@ -243,17 +227,14 @@ pub fn write_reg(cache: &mut [u32], offset: u32, value: u32)
         return;
     }
     let clear = value & CTRL_CLR_STATS != 0;
-    let i = I_BANK;
-    let d = D_BANK;
-    let e = CACHE_WORDS;
     control(
-        &mut cache[i..d],
+        &mut cache[I_BANK..D_BANK],
         value & CTRL_I_EN != 0,
         value & CTRL_INV_I != 0,
         clear,
     );
     control(
-        &mut cache[d..e],
+        &mut cache[D_BANK..CACHE_WORDS],
         value & CTRL_D_EN != 0,
         value & CTRL_INV_D != 0,
         clear,
@@ -265,11 +246,8 @@ fn pack_banks(cache: &mut [u32], i: Bank, d: Bank)
     requires { length cache.old ≡ cache_words }
     ensures { cache_at cache.new ≡ with_banks (cache_at cache.old) i d }
 {
-    let a = I_BANK;
-    let b = D_BANK;
-    let e = CACHE_WORDS;
-    pack_bank(&mut cache[a..b], i);
-    pack_bank(&mut cache[b..e], d);
+    pack_bank(&mut cache[I_BANK..D_BANK], i);
+    pack_bank(&mut cache[D_BANK..CACHE_WORDS], d);
 }
 
 pub fn reset(cache: &mut [u32])
@@ -301,12 +279,9 @@ pub fn unpack(words: &[u32]) -> L1Cache
     if words.len() != CACHE_WORDS {
         return L1Cache::new(0, 0);
     }
-    let i = I_BANK;
-    let d = D_BANK;
-    let e = CACHE_WORDS;
     L1Cache {
-        i: unpack_bank(&words[i..d]),
-        d: unpack_bank(&words[d..e]),
+        i: unpack_bank(&words[I_BANK..D_BANK]),
+        d: unpack_bank(&words[D_BANK..CACHE_WORDS]),
         ram_start: words[RAM_START],
         ram_end: words[RAM_END],
         miss_penalty: words[MISS_PENALTY],

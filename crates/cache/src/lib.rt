@@ -8,7 +8,7 @@
 
 ghost use Rattle.std.specs.Prelude.{◌≡◌};
 ghost use Rattle.cache.specs.Bank.{line_of, line_stop, index_of, tag_of, new_bank, accessed, line_dropped, emptied, enabled_to, stats_cleared, controlled, swept};
-ghost use Rattle.cache.specs.Cache.{saturated, new_cache, range_has, cacheable_at, reset_of, both_cleared, cost_of, fetched, loaded, stored, external_written, lines_visited, enable_bits, ctrl_word, register_at, reg_read, reg_written, lane_shift, merged, byte_read, byte_written};
+ghost use Rattle.cache.specs.Cache.{new_cache, range_has, cacheable_at, reset_of, both_cleared, bank_after, stall_after, fetched, loaded, stored, external_written, lines_visited, enable_bits, ctrl_word, register_at, reg_read, reg_written, lane_shift, merged, byte_read, byte_written};
 ghost use Rattle.cache.specs.Meaning.{Meaning};
 ghost use Rattle.cache.specs.History.{History};
 ghost use Rattle.cache.specs.Corners.{Corners};
@@ -54,7 +54,7 @@ pub struct Bank {
     pub misses: u32,
 }
 
-// What an access leaves and whether it hit.
+// What an access leaves and whether it hit: a method takes the bank by value and hands it back.
 #[repr(C)]
 #[derive(Clone, Copy)]
 pub struct BankAccess {
@@ -83,18 +83,8 @@ fn within(start: u32, end: u32, pa: u32) -> bool
     pa >= start && pa < end
 }
 
-// `u32::saturating_add`.
-fn saturating_add(a: u32, b: u32) -> u32
-    ensures { result ≡ saturated a b }
-{
-    if b <= 0xFFFF_FFFF - a {
-        a + b
-    } else {
-        0xFFFF_FFFF
-    }
-}
-
 impl Bank {
+    #[tactic(auto, unfolding(crate::specs::Bank::no_tags))]
     pub fn new() -> Self
         ensures { result ≡ new_bank }
     {
@@ -106,6 +96,7 @@ impl Bank {
         }
     }
 
+    #[tactic(auto, unfolding(crate::specs::Bank::no_tags))]
     pub fn invalidate_all(mut self) -> Self
         ensures { result ≡ emptied self }
     {
@@ -114,45 +105,40 @@ impl Bank {
     }
 
     // Looks up and, on a miss, allocates the line.
+    #[tactic(auto, unfolding(crate::specs::Bank::accessed))]
     pub fn access(mut self, pa: u32) -> BankAccess
         ensures { result ≡ accessed self pa }
     {
         let index = index_of(pa);
         let tag = tag_of(pa);
-        if self.tags[index] == tag {
-            self.hits = std::num::wrapping_add_u32(self.hits, 1);
-            BankAccess {
-                bank: self,
-                hit: true,
-            }
+        let hit = self.tags[index] == tag;
+        if hit {
+            self.hits = self.hits.wrapping_add(1);
         } else {
             self.tags[index] = tag;
-            self.misses = std::num::wrapping_add_u32(self.misses, 1);
-            BankAccess {
-                bank: self,
-                hit: false,
-            }
+            self.misses = self.misses.wrapping_add(1);
         }
+        BankAccess { bank: self, hit }
     }
 
+    #[tactic(auto, unfolding(crate::specs::Bank::line_dropped))]
     pub fn invalidate_line(mut self, pa: u32) -> Self
         ensures { result ≡ line_dropped self pa }
     {
         let index = index_of(pa);
         if self.tags[index] == tag_of(pa) {
             self.tags[index] = INVALID;
-            return self;
         }
         self
     }
 
+    #[tactic(auto, using(crate::proofs::Banks::enables))]
     pub fn set_enabled(mut self, enabled: bool) -> Self
         ensures { result ≡ enabled_to self enabled }
     {
         if self.enabled != enabled {
             self = self.invalidate_all();
             self.enabled = enabled;
-            return self;
         }
         self
     }
@@ -169,27 +155,22 @@ impl Bank {
     fn control(self, enabled: bool, invalidate: bool, clear: bool) -> Self
         ensures { result ≡ controlled self enabled invalidate clear }
     {
-        let b = self.set_enabled(enabled);
+        let mut bank = self.set_enabled(enabled);
         if invalidate {
-            let e = b.invalidate_all();
-            if clear {
-                return e.clear_stats();
-            }
-            return e;
+            bank = bank.invalidate_all();
         }
         if clear {
-            return b.clear_stats();
+            bank = bank.clear_stats();
         }
-        b
+        bank
     }
 
     // Drops the index of each line from the one that holds `pa` while the line starts below `end`.
+    #[tactic(auto, using(crate::proofs::Sweeps::bank_swept))]
     fn invalidate_lines(mut self, pa: u32, end: u32) -> Self
         ensures { result ≡ swept self (line_of pa) (line_stop end) }
     {
-        let mut tags = self.tags;
-        sweep(&mut tags, pa, end);
-        self.tags = tags;
+        sweep(&mut self.tags, pa, end);
         self
     }
 }
@@ -206,7 +187,7 @@ pub struct L1Cache {
     pub miss_penalty: u32,
 }
 
-// What a load or fetch leaves and its stall cycles.
+// What a load or fetch leaves and its stall cycles: a method takes the cache by value and hands it back.
 #[repr(C)]
 #[derive(Clone, Copy)]
 pub struct CacheAccess {
@@ -214,21 +195,15 @@ pub struct CacheAccess {
     pub stall: u32,
 }
 
-// A hit costs nothing.
-fn stall_of(hit: bool, miss_penalty: u32) -> u32
-    ensures { result ≡ cost_of hit miss_penalty }
-{
-    if hit { 0 } else { miss_penalty }
-}
-
 // The two enable bits.
+#[tactic(auto, using(crate::proofs::Caches::flag_fits, crate::proofs::Caches::flags))]
 fn ctrl_word(i: bool, d: bool) -> u32
     ensures { result ≡ enable_bits i d }
 {
     (i as u32) * CTRL_I_EN | (d as u32) * CTRL_D_EN
 }
 
-// The register at an offset, given what the registers have.
+// The register at an offset, given what the registers have: six numbers, of which a struct would be made for this call alone.
 fn register(offset: u32, ctrl: u32, i_hits: u32, i_misses: u32, d_hits: u32, d_misses: u32) -> u32
     ensures { result ≡ register_at offset ctrl i_hits i_misses d_hits d_misses }
 {
@@ -251,11 +226,12 @@ impl L1Cache {
             i: Bank::new(),
             d: Bank::new(),
             ram_start,
-            ram_end: saturating_add(ram_start, ram_size),
+            ram_end: ram_start.saturating_add(ram_size),
             miss_penalty: 0,
         }
     }
 
+    #[tactic(auto, unfolding(crate::specs::Cache::cacheable_at))]
     pub fn cacheable(self, pa: u32) -> bool
         ensures { result ≡ cacheable_at self pa }
     {
@@ -279,83 +255,67 @@ impl L1Cache {
         self
     }
 
+    // What a load or fetch leaves of its bank, and its stall cycles. A hit costs nothing.
+    fn access(self, bank: Bank, pa: u32) -> (Bank, u32)
+        ensures { result ≡ (bank_after self bank pa, stall_after self bank pa) }
+    {
+        if !bank.enabled || !self.cacheable(pa) {
+            return (bank, 0);
+        }
+        let BankAccess { bank, hit } = bank.access(pa);
+        (bank, if hit { 0 } else { self.miss_penalty })
+    }
+
     // Instruction fetch of the word or halfword at `pa`.
+    #[tactic(auto, unfolding(crate::specs::Cache::fetched))]
     pub fn fetch(mut self, pa: u32) -> CacheAccess
         ensures { result ≡ fetched self pa }
     {
-        if !self.i.enabled {
-            return CacheAccess {
-                cache: self,
-                stall: 0,
-            };
-        }
-        if !self.cacheable(pa) {
-            return CacheAccess {
-                cache: self,
-                stall: 0,
-            };
-        }
-        let a = self.i.access(pa);
-        let b = a.bank;
-        self.i = b;
-        CacheAccess {
-            cache: self,
-            stall: stall_of(a.hit, self.miss_penalty),
-        }
+        let (i, stall) = self.access(self.i, pa);
+        self.i = i;
+        CacheAccess { cache: self, stall }
     }
 
     // Data load.
+    #[tactic(auto, unfolding(crate::specs::Cache::loaded))]
     pub fn load(mut self, pa: u32) -> CacheAccess
         ensures { result ≡ loaded self pa }
     {
-        if !self.d.enabled {
-            return CacheAccess {
-                cache: self,
-                stall: 0,
-            };
-        }
-        if !self.cacheable(pa) {
-            return CacheAccess {
-                cache: self,
-                stall: 0,
-            };
-        }
-        let a = self.d.access(pa);
-        let b = a.bank;
-        self.d = b;
-        CacheAccess {
-            cache: self,
-            stall: stall_of(a.hit, self.miss_penalty),
-        }
+        let (d, stall) = self.access(self.d, pa);
+        self.d = d;
+        CacheAccess { cache: self, stall }
     }
 
     // Write-through store: no allocation, snoops the instruction bank.
+    #[tactic(auto, unfolding(crate::specs::Cache::stored))]
     pub fn store(mut self, pa: u32) -> Self
         ensures { result ≡ stored self pa }
     {
         if self.cacheable(pa) {
             self.i = self.i.invalidate_line(pa);
-            return self;
         }
         self
     }
 
     // Another bus master wrote [pa, pa + len).
+    #[tactic(auto, unfolding(crate::specs::Cache::external_written))]
     pub fn external_write(mut self, pa: u32, len: u32) -> Self
         ensures { result ≡ external_written self pa len }
     {
-        let end = saturating_add(pa, len);
+        let end = pa.saturating_add(len);
         self.i = self.i.invalidate_lines(pa, end);
         self.d = self.d.invalidate_lines(pa, end);
         self
     }
 
+    #[tactic(auto, unfolding(crate::specs::Cache::ctrl_word))]
     pub fn ctrl(self) -> u32
         ensures { result ≡ ctrl_word self }
     {
         ctrl_word(self.i.enabled, self.d.enabled)
     }
 
+    #[tactic(auto, unfolding(crate::specs::Cache::reg_read))]
     pub fn read_reg(self, offset: u32) -> u32
         ensures { result ≡ reg_read self offset }
     {
@@ -370,6 +330,7 @@ impl L1Cache {
     }
 
     // Only CACHE_CTRL is writable.
+    #[tactic(auto, using(crate::proofs::Caches::writes))]
     pub fn write_reg(mut self, offset: u32, value: u32) -> Self
         ensures { result ≡ reg_written self offset value }
     {
@@ -387,6 +348,7 @@ impl L1Cache {
     }
 
     // One byte of a register, big-endian.
+    #[tactic(auto, using(crate::proofs::Lanes::byte_read_lem))]
     pub fn read_byte(self, addr: u32) -> u8
         ensures { result ≡ byte_read self addr }
     {
@@ -394,6 +356,7 @@ impl L1Cache {
     }
 
     // Writes one byte of a register: it is merged into the register as read, whose strobe bits are zero.
+    #[tactic(auto, using(crate::proofs::Lanes::byte_written_lem))]
     pub fn write_byte(self, addr: u32, value: u8) -> Self
         ensures { result ≡ byte_written self addr value }
     {
@@ -407,10 +370,11 @@ impl L1Cache {
 pub fn lines_visited(pa: u32, len: u32) -> u32
     ensures { result ≡ lines_visited pa len }
 {
-    visits(pa, saturating_add(pa, len))
+    visits(pa, pa.saturating_add(len))
 }
 
 // How far up its word the byte at `addr` stands.
+#[tactic(auto, using(crate::proofs::Lanes::lane_fits, crate::proofs::Lanes::lane_is))]
 fn lane_shift(addr: u32) -> u32
     ensures { result ≡ lane_shift addr }
 {
@@ -418,6 +382,7 @@ fn lane_shift(addr: u32) -> u32
 }
 
 // The word with the byte at `addr` replaced.
+#[tactic(auto, using(crate::proofs::Lanes::merge_is))]
 fn merge(old: u32, addr: u32, value: u8) -> u32
     ensures { result ≡ merged old addr value }
 {
@@ -426,16 +391,19 @@ fn merge(old: u32, addr: u32, value: u8) -> u32
 }
 
 // What the contracts above mean, line by line.
+#[tactic(auto, using(crate::proofs::Sentences::meaning_holds))]
 pub fn meaning()
     ensures { Meaning }
 {}
 
 // Each bank's hits plus misses tell how many loads or fetches there were since the last clear or reset.
+#[tactic(auto, using(crate::proofs::Histories::history_holds))]
 pub fn history()
     ensures { History }
 {}
 
 // The figures of the cache's description, computed.
+#[tactic(auto, using(crate::proofs::Figures::corners_hold))]
 pub fn corners()
     ensures { Corners }
 {}

@@ -5,17 +5,13 @@ ghost use Rattle.cache.specs.Bank.{line_of, line_stop, visited, swept_tags};
 use crate::{INVALID, LINE_SHIFT, LINES, index_of};
 
 // How many lines a sweep visits, from the one that holds `pa` while the line starts below `end`: no more than a bank has, since
-// after those every index is empty. The sum is wide because it may not fit a word.
+// after those every index is empty.
 pub(crate) fn visits(pa: u32, end: u32) -> u32
     ensures { result ≡ visited (line_of pa) (line_stop end) }
 {
     let first = pa >> LINE_SHIFT;
-    let stop = ((end as u64 + 31) >> LINE_SHIFT) as u32;
-    if stop <= first {
-        return 0;
-    }
-    let lines = stop - first;
-    if lines < LINES { lines } else { LINES }
+    let stop = end.div_ceil(1 << LINE_SHIFT);
+    stop.saturating_sub(first).min(LINES)
 }
 
 // Drops the index of each line that it visits; the next line has the next index. The hardware's snoop carries the index only, so
@@ -24,11 +20,8 @@ pub(crate) fn sweep(tags: &mut [u32], pa: u32, end: u32)
     requires { length tags.old ≡ 256 }
     ensures { tags.new ≡ swept_tags tags.old (line_of pa) (line_stop end) }
 {
-    let turns = visits(pa, end) as usize;
     let first = index_of(pa);
-    let mut n = 0;
-    while n < turns {
+    for n in 0..visits(pa, end) as usize {
         tags[(first + n) % LINES as usize] = INVALID;
-        n += 1;
     }
 }

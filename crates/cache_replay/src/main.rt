@@ -6,13 +6,15 @@
 // the digests of the I and D tags.
 #![tactic(auto)]
 
-use cache::{Bank, CacheAccess, L1Cache};
-use digest::FNV_START;
-use input::read_full;
-use script::{EVENT_SIZE, Event};
-use std::io;
-use std::io::Write;
-use text::{put_byte, put_hex};
+use cache::{CacheAccess, L1Cache};
+use digest::{FNV_START, fnv_words};
+use script::{EVENT_SIZE, Event, event_at};
+use std::fmt::{Display, Formatter};
+use std::io::{Read, Write};
+use std::{fmt, io};
+
+// What is read of the input; the rest is left.
+const INPUT_MAX: u64 = 65536;
 
 #[derive(Clone, Copy)]
 struct Answer {
@@ -21,116 +23,77 @@ struct Answer {
 }
 
 // An operation that answers its stall.
-fn stalled(access: CacheAccess) -> Answer {
-    let cache = access.cache;
-    Answer {
-        cache,
-        value: access.stall,
+impl From<CacheAccess> for Answer {
+    fn from(access: CacheAccess) -> Answer {
+        Answer {
+            cache: access.cache,
+            value: access.stall,
+        }
     }
 }
 
 // An operation that answers nothing.
-fn changed(cache: L1Cache) -> Answer {
-    Answer { cache, value: 0 }
+impl From<L1Cache> for Answer {
+    fn from(cache: L1Cache) -> Answer {
+        Answer { cache, value: 0 }
+    }
 }
 
-fn with_penalty(mut c: L1Cache, penalty: u32) -> L1Cache {
-    c.miss_penalty = penalty;
-    c
+impl Display for Answer {
+    fn fmt<W: fmt::Write>(&self, f: &mut Formatter<W>) -> fmt::Result {
+        let c = self.cache;
+        write!(f, "{:08X}", self.value)?;
+        write!(f, " {:X} {:X}", c.i.enabled as u8, c.d.enabled as u8)?;
+        for bank in [c.i, c.d] {
+            write!(f, " {:08X} {:08X}", bank.hits, bank.misses)?;
+        }
+        write!(
+            f,
+            " {:08X} {:08X} {:08X}",
+            c.miss_penalty, c.ram_start, c.ram_end
+        )?;
+        for bank in [c.i, c.d] {
+            write!(f, " {:08X}", fnv_words(FNV_START, &bank.tags))?;
+        }
+        Ok(())
+    }
 }
 
-fn step(c: L1Cache, e: Event) -> Answer {
-    let kind = e.kind;
-    match kind {
-        0 => stalled(c.load(e.a)),
-        1 => changed(c.store(e.a)),
-        2 => stalled(c.fetch(e.a)),
-        3 => changed(c.external_write(e.a, e.b)),
+fn step(cache: L1Cache, e: Event) -> Answer {
+    match e.kind {
+        0 => Answer::from(cache.load(e.a)),
+        1 => Answer::from(cache.store(e.a)),
+        2 => Answer::from(cache.fetch(e.a)),
+        3 => Answer::from(cache.external_write(e.a, e.b)),
         4 => Answer {
-            cache: c,
-            value: c.read_reg(e.a),
+            cache,
+            value: cache.read_reg(e.a),
         },
-        5 => changed(c.write_reg(e.a, e.b)),
+        5 => Answer::from(cache.write_reg(e.a, e.b)),
         6 => Answer {
-            cache: c,
-            value: c.read_byte(e.a) as u32,
+            cache,
+            value: cache.read_byte(e.a) as u32,
         },
-        7 => changed(c.write_byte(e.a, e.size)),
-        8 => changed(c.reset()),
-        9 => changed(L1Cache::new(e.a, e.b)),
-        10 => changed(with_penalty(c, e.a)),
-        _ => changed(c),
+        7 => Answer::from(cache.write_byte(e.a, e.size)),
+        8 => Answer::from(cache.reset()),
+        9 => Answer::from(L1Cache::new(e.a, e.b)),
+        10 => Answer::from(L1Cache {
+            miss_penalty: e.a,
+            ..cache
+        }),
+        _ => Answer::from(cache),
     }
-}
-
-fn tags_digest(bank: Bank) -> u32 {
-    let tags = bank.tags;
-    digest::fnv_words(FNV_START, &tags)
-}
-
-// A blank and a number.
-fn put_field(line: &mut [u8], at: usize, v: u32, digits: u32) -> usize {
-    let next = put_byte(line, at, b' ');
-    put_hex(line, next, v, digits)
-}
-
-fn put_enables(line: &mut [u8], at: usize, c: L1Cache) -> usize {
-    let next = put_field(line, at, c.i.enabled as u32, 1);
-    put_field(line, next, c.d.enabled as u32, 1)
-}
-
-fn put_counts(line: &mut [u8], at: usize, bank: Bank) -> usize {
-    let next = put_field(line, at, bank.hits, 8);
-    put_field(line, next, bank.misses, 8)
-}
-
-fn put_settings(line: &mut [u8], at: usize, c: L1Cache) -> usize {
-    let penalty = put_field(line, at, c.miss_penalty, 8);
-    let start = put_field(line, penalty, c.ram_start, 8);
-    put_field(line, start, c.ram_end, 8)
-}
-
-fn put_banks(line: &mut [u8], at: usize, c: L1Cache) -> usize {
-    let enables = put_enables(line, at, c);
-    let counts = put_counts(line, enables, c.i);
-    put_counts(line, counts, c.d)
-}
-
-fn put_tags(line: &mut [u8], at: usize, c: L1Cache) -> usize {
-    let next = put_field(line, at, tags_digest(c.i), 8);
-    put_field(line, next, tags_digest(c.d), 8)
-}
-
-fn put_line(line: &mut [u8], answer: Answer) -> usize {
-    let c = answer.cache;
-    let value = put_hex(line, 0, answer.value, 8);
-    let banks = put_banks(line, value, c);
-    let settings = put_settings(line, banks, c);
-    let tags = put_tags(line, settings, c);
-    put_byte(line, tags, b'\n')
-}
-
-fn show<W: Write>(out: &mut W, answer: Answer) -> io::Result<()> {
-    let mut line = [0u8; 128];
-    let end = put_line(&mut line, answer);
-    if end <= 128 {
-        return out.write_all(&line[..end]);
-    }
-    Ok(())
 }
 
 fn main(rt: HostRuntime) -> io::Result<()> {
+    let mut input = Vec::new(rt.alloc());
+    rt.stdin().take(INPUT_MAX).read_to_end(&mut input)?;
     let mut out = rt.stdout();
-    let mut input = [0u8; 65536];
-    let n = read_full(&mut rt.stdin(), &mut input)?;
-    let mut c = L1Cache::new(0, 0x8000);
-    let mut at: usize = 0;
-    while at < n {
-        let answer = step(c, script::event_at(&input[..n], at));
-        show(&mut out, answer)?;
-        let next = answer.cache;
-        c = next;
-        at += EVENT_SIZE;
+    let mut cache = L1Cache::new(0, 0x8000);
+    for record in input.chunks(EVENT_SIZE) {
+        let answer = step(cache, event_at(record, 0));
+        writeln!(out, "{answer}")?;
+        cache = answer.cache;
     }
     Ok(())
 }

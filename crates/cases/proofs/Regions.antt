@@ -2,14 +2,8 @@
 --
 --   decided    == the check's whole answer where the regions decide
 -- Assumes nothing.
-use Prim.Native.Nat.{ℕ, ◌/◌, ◌%◌, ◌<◌}
-use mathlib.Core.Path.{◌≡◌, refl, ◌∙◌}
-use mathlib.Core.Bool.{Bool, true, false, cond, ◌&&◌}
-use mathlib.Core.Logic.{⊎_elim}
-use native.Mathlib.Omega.{arith}
-use lib.Dec.{eqb, ltb, leb}
-use lib.ListN.{get_or}
-use borrow.Author.Tests.{eqb-true, eqb-false, lt-ltb, le-leb}
+use Rattle.std.proofs.Common.{◌≡◌, ℕ, ◌/◌, ◌%◌, ◌<◌, Bool, true, false, cond, ◌&&◌, eqb, ltb, leb, get_or, Ok, Err, refl, ◌∙◌, ⊎_elim, arith, lt-ltb, eqb-true, le-leb}
+use borrow.Author.Tests.{eqb-false}
 use Rattle.common.specs.Cases.{bool_is}
 use Rattle.memory.specs.Memory.{Memory}
 use Rattle.mmu.specs.Exception.{region_bit}
@@ -22,13 +16,13 @@ use Rattle.privilege.specs.Addresses.{addresses}
 use Rattle.privilege.specs.Region.{grants_of, some_grants, all_allowed}
 use Rattle.privilege.specs.Region.Laws.{some_granted, none_granted}
 use Rattle.privilege.specs.State.{no_region}
-use Rattle.privilege.specs.declared.check.Permission.TheVariants.{Allowed, Denied}
+use Rattle.privilege.specs.declared.check.AccessError.TheVariants.{Denied}
 use Rattle.privilege.specs.declared.state.SystemState.{SystemState}
 use Rattle.cases.specs.Cases.{Decided, Holds, NoOther, IsAllowed, IsDenied}
 
 module _ (m : Memory) (s : SystemState) (d : Decided m s) where
   decided : (a n : ℕ) (k : Access) (b : Bool) → legal_size k n ≡ true → all_allowed s.regions k (addresses n a) ≡ b
-      → check_access m s a n k ≡ access_answered s (cond b Allowed (Denied (ProtectionFault k)))
+      → check_access m s a n k ≡ access_answered s (cond b (Ok tt) (Err (Denied (ProtectionFault k))))
   decided a n k b legal h = regions_decide m s a n k d.map legal d.user d.off ∙ rw h
 
   pub p6_allowed : (n : ℕ) → Holds s n 0x1000 0x2000 1 → IsAllowed m s 0x1FFF 1 Read

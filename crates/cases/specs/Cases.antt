@@ -10,7 +10,7 @@
 --   resident va ppn flags           == the entry of va's page
 --   controller pending enable level == a controller with these words
 --   shown_by, none                  == an output with this number, and no output
-use Rattle.std.specs.Prelude.{ℕ, ◌/◌, ◌≡◌, true, false, List, length, get_or}
+use Rattle.std.specs.Prelude.{ℕ, ◌/◌, ◌≡◌, true, false, List, length, get_or, Some, Ok, Err}
 use Rattle.cache.specs.Cache.{external_written}
 use Rattle.cache.specs.Corners.{drops}
 use Rattle.cache.specs.declared.L1Cache.{L1Cache}
@@ -21,29 +21,26 @@ use Rattle.irqc.specs.declared.IrqController.{IrqController}
 use Rattle.irqc.specs.declared.IrqOutput.{IrqOutput}
 use Rattle.memory.specs.Gate.{map_good}
 use Rattle.memory.specs.Memory.{Memory, read_at, word_spots}
-use Rattle.memory.specs.declared.Content.TheVariants as content
+use Rattle.mmu.specs.declared.walk.WalkFault.TheVariants.{Missing}
+use Rattle.privilege.specs.declared.check.AccessError.TheVariants.{Denied}
 use Rattle.mmu.specs.Exception.{cause_of}
 use Rattle.mmu.specs.Walk.{table_ok, spot1, spot2, answered, walk_of}
 use Rattle.mmu.specs.declared.exception.Access.{Access}
 use Rattle.mmu.specs.declared.exception.Access.TheVariants.{Read, Write, Fetch}
 use Rattle.mmu.specs.declared.exception.Exception.TheVariants.{Syscall, PageFault, ProtectionFault}
 use Rattle.mmu.specs.declared.tlb.TlbEntry.{TlbEntry}
-use Rattle.mmu.specs.declared.walk.Walked.TheVariants.{Leaf, Missing}
 use Rattle.privilege.specs.Access.{legal_size, access_answered, check_access}
 use Rattle.privilege.specs.Corners.{read_back}
 use Rattle.privilege.specs.Region.{grants_of}
 use Rattle.privilege.specs.Registers.{sr_read, sr_written}
 use Rattle.privilege.specs.State.{no_region, new_state}
 use Rattle.privilege.specs.Trap.{returned}
-use Rattle.privilege.specs.declared.check.Permission.TheVariants.{Allowed, Denied}
-use Rattle.privilege.specs.declared.registers.SrAnswer.TheVariants as answer
-use Rattle.privilege.specs.declared.registers.SrRead.TheVariants.{Value, Refused}
 use Rattle.privilege.specs.declared.state.SystemState.{SystemState}
 
 abbrev pub Unknown : ℕ → Type 0
 Unknown sr =
     (s : SystemState) (reg : List ℕ) →
-    (sr_read s sr reg ≡ Refused Register) × ((v : ℕ) → sr_written s sr v reg ≡ record { sys = s; reg = reg; answer = answer.Refused Register })
+    (sr_read s sr reg ≡ Err Register) × ((v : ℕ) → sr_written s sr v reg ≡ record { sys = s; reg = reg; answer = Err Register })
 
 abbrev pub Eight : SystemState → Type 0
 Eight s = length s.regions ≡ 8
@@ -60,16 +57,16 @@ abbrev pub NoOther : SystemState → ℕ → ℕ → Access → Type 0
 NoOther s n a k = (j : ℕ) → (j ≡ n → ⊥) → grants_of (get_or s.regions j no_region) a k ≡ false
 
 abbrev pub IsAllowed : Memory → SystemState → ℕ → ℕ → Access → Type 0
-IsAllowed m s a n k = check_access m s a n k ≡ access_answered s Allowed
+IsAllowed m s a n k = check_access m s a n k ≡ access_answered s (Ok tt)
 
 abbrev pub IsDenied : Memory → SystemState → ℕ → ℕ → Access → Type 0
-IsDenied m s a n k = check_access m s a n k ≡ access_answered s (Denied (ProtectionFault k))
+IsDenied m s a n k = check_access m s a n k ≡ access_answered s (Err (Denied (ProtectionFault k)))
 
 pub record Leads (m : Memory) (ptbr va w : ℕ) : Type 0 where
   pub table : ℕ
-  pub first : read_at m (word_spots (spot1 ptbr va)) ≡ content.Value table
+  pub first : read_at m (word_spots (spot1 ptbr va)) ≡ Some table
   pub followed : table_ok table ≡ true
-  pub second : read_at m (word_spots (spot2 table va)) ≡ content.Value w
+  pub second : read_at m (word_spots (spot2 table va)) ≡ Some w
 
 abbrev pub resident : ℕ → ℕ → ℕ → TlbEntry
 resident va ppn flags = record { valid = true; vpn = va / 4096; ppn = ppn; flags = flags }
@@ -85,13 +82,13 @@ none = output false 0
 
 pub record Cases : Type 0 where
   -- "STATUS at reset 3"
-  pub p1 : (reg : List ℕ) → sr_read new_state 0x00 reg ≡ Value 3
+  pub p1 : (reg : List ℕ) → sr_read new_state 0x00 reg ≡ Ok 3
   -- "PTBR written 0x1FFF reads 0x1000"
-  pub p2 : (s : SystemState) (reg : List ℕ) → read_back s reg 0x41 0x1FFF ≡ Value 0x1000
+  pub p2 : (s : SystemState) (reg : List ℕ) → read_back s reg 0x41 0x1FFF ≡ Ok 0x1000
   -- "register 0x13 unknown; 0x2E written 0xFF reads 7; 0x2F and 0x30 unknown"
   pub p3 :
       Unknown 0x13
-      × ((s : SystemState) (reg : List ℕ) → Eight s → read_back s reg 0x2E 0xFF ≡ Value 7)
+      × ((s : SystemState) (reg : List ℕ) → Eight s → read_back s reg 0x2E 0xFF ≡ Ok 7)
       × Unknown 0x2F
       × Unknown 0x30
       × (refusal_number Register ≡ 3)
@@ -111,10 +108,10 @@ pub record Cases : Type 0 where
       × IsDenied m s 0xFFFF_0000 2 Fetch
   -- "leaf 0x3005 not present, 0x3013 present"
   pub p8 : (m : Memory) (ptbr va : ℕ) →
-      (Leads m ptbr va 0x3005 → walk_of m ptbr va ≡ answered Missing 2)
-      × (Leads m ptbr va 0x3013 → walk_of m ptbr va ≡ answered (Leaf (resident va 3 0x12)) 2)
+      (Leads m ptbr va 0x3005 → walk_of m ptbr va ≡ answered (Err Missing) 2)
+      × (Leads m ptbr va 0x3013 → walk_of m ptbr va ≡ answered (Ok (resident va 3 0x12)) 2)
   -- "level 1 0x2003 unmapped"
-  pub p9 : (m : Memory) (ptbr va : ℕ) → read_at m (word_spots (spot1 ptbr va)) ≡ content.Value 0x2003 → walk_of m ptbr va ≡ answered Missing 1
+  pub p9 : (m : Memory) (ptbr va : ℕ) → read_at m (word_spots (spot1 ptbr va)) ≡ Some 0x2003 → walk_of m ptbr va ≡ answered (Err Missing) 1
   -- "pending 0x24: enable 0x20 gives 5, 0x24 gives 2, 0 none"
   pub p10 : (level : ℕ) →
       (output_of (controller 0x24 0x20 level) ≡ shown_by 5)

@@ -9,24 +9,24 @@ ghost use Rattle.common.specs.Refusal.{refusal_number};
 pub fn be_half(a: u8, b: u8) -> u16
     ensures { result ≡ big_endian (a ∷ b ∷ []) }
 {
-    (a as u16) * 256 + (b as u16)
+    u16::from_be_bytes([a, b])
 }
 
 pub fn be_word(a: u8, b: u8, c: u8, d: u8) -> u32
     ensures { result ≡ big_endian (a ∷ b ∷ c ∷ d ∷ []) }
 {
-    (((a as u32) * 256 + (b as u32)) * 256 + (c as u32)) * 256 + (d as u32)
+    u32::from_be_bytes([a, b, c, d])
 }
 
 // Why a call was refused. A refused call has changed nothing.
-#[derive(Clone, Copy)]
+#[derive(Clone, Copy, PartialEq, Eq, Debug)]
 pub enum Refusal {
-    Size,
-    Map,
-    Register,
-    Header,
-    Section,
-    Event,
+    Size = 1,
+    Map = 2,
+    Register = 3,
+    Header = 4,
+    Section = 5,
+    Event = 6,
 }
 
 impl Refusal {
@@ -34,13 +34,6 @@ impl Refusal {
     pub fn number(self) -> u32
         ensures { result ≡ refusal_number self }
     {
-        match self {
-            Refusal::Size => 1,
-            Refusal::Map => 2,
-            Refusal::Register => 3,
-            Refusal::Header => 4,
-            Refusal::Section => 5,
-            Refusal::Event => 6,
-        }
+        self as u32
     }
 }

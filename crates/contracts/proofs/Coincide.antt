@@ -8,7 +8,6 @@ use Rattle.common.specs.declared.Refusal.{Refusal}
 use Rattle.contracts.proofs.Shapes.{answer, content, both, text, next}
 use Rattle.contracts.proofs.Words.{same_words, words, beside, memory, two, pair, reads, pages_same, grants_same, access_same, step_same, run_same, open_words}
 use Rattle.machine.specs.declared.flat.run.Listed.{Listed}
-use Rattle.memory.specs.Gate.{Gate, Refused}
 use Rattle.privilege.specs.declared.registers.SrWritten.{SrWritten}
 use Rattle.privilege.specs.declared.trap.Returned.{Returned}
 use Rattle.privilege.specs.declared.trap.Trapped.{Trapped}
@@ -28,10 +27,6 @@ use Rattle.contracts.specs.Listing.{Listing}
 use Rattle.contracts.specs.Machine.{Machine, MachineFlat}
 use Rattle.contracts.specs.Bridge.{Bridge, BridgeLent}
 use Rattle.contracts.specs.Race.{Race}
-
--- one refusal stops a call
-refused_same : {r r' : Refusal} {g : Gate} → Refused r ≡ g → Refused r' ≡ g → r ≡ r'
-refused_same {r = r} {r' = r'} p q = let z : Refused r ≡ Refused r' = p ∙ sym q in cc
 
 common_settled : Common
 common_settled = search answer
@@ -95,8 +90,7 @@ memory_settled : Memory
 memory_settled = record {
   good_range = record { coincide = answer };
   good_map = record { coincide = answer };
-  is_open = record { coincide = answer };
-  refusal = record { coincide = λ p q. answer (refused_same p q) refl };
+  admit = record { coincide = answer };
   read_byte = record { coincide = answer };
   read_word = record { coincide = answer };
   put_byte = record { coincide = both };

@@ -9,6 +9,7 @@
 --
 -- An equation of each outcome with one thing makes the two outcomes equal; whether there are n words is decided, so the answer is equal either way. Assumes
 -- nothing.
+use Rattle.std.specs.Prelude.{Option}
 use Prim.Native.Nat.{ℕ}
 use mathlib.Core.Path.{◌≡◌, refl, sym, ap, ◌∙◌}
 use mathlib.Core.List.{List, ◌∷◌}
@@ -106,7 +107,7 @@ pages_same at p q =
     (ap (λ (x : Checked). x.vm) c, λ i. record { verdict = (c i).verdict; ppn = ppn i; reads = (c i).reads })
 
 -- a word is asked for at once or it is not
-pub grants_same : (m : Memory) (l : List ℕ) (a : ℕ) (k : Access) (w w' : List ℕ) {g g' : Grant} → GrantsWord m l a k g w → GrantsWord m l a k g' w'
+pub grants_same : (m : Memory) (l : List ℕ) (a : ℕ) (k : Access) (w w' : List ℕ) {g g' : Option Grant} → GrantsWord m l a k g w → GrantsWord m l a k g' w'
     → (◌≡◌ {A = SystemState × List ℕ} (sys_at w, reg_at w) (sys_at w', reg_at w')) × (g ≡ g')
 grants_same m l a k w w' p q =
     ⊎_elim

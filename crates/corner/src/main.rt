@@ -9,14 +9,13 @@
 use mmu::exception::Access;
 use mmu::tlb::TlbEntry;
 use mmu::vm::Vm;
-use privilege::check::{AccessChecked, Permission};
 use privilege::state::SystemState;
-use privilege::transfer::DataRead;
 use std::io;
 use std::io::Write;
-use text::{put_byte, put_bytes, put_decimal, put_hex};
 
 const VA: u32 = 0x5FFE;
+
+const MEMORY: usize = 0x22000;
 
 // A user-readable page that leads to physical page 3.
 fn entry(vpn: u32) -> TlbEntry {
@@ -31,9 +30,8 @@ fn entry(vpn: u32) -> TlbEntry {
 // Page 5 in slot 0, pages 7 to 21 in the others.
 fn full_vm() -> Vm {
     let mut vm = Vm::new().fill(entry(5));
-    for page in 7..22u32 {
-        let next = vm.fill(entry(page));
-        vm = next;
+    for page in 7..22 {
+        vm = vm.fill(entry(page));
     }
     vm.enabled = true;
     vm.ptbr = 0x1000;
@@ -41,92 +39,45 @@ fn full_vm() -> Vm {
 }
 
 fn user_state() -> SystemState {
-    let vm = full_vm();
-    let mut sys = SystemState::new();
-    sys.user = true;
-    sys.vm = vm;
-    sys
+    SystemState {
+        user: true,
+        vm: full_vm(),
+        ..SystemState::new()
+    }
 }
 
 // Page 1 has the level-1 words and page 2 the leaves, of page 5 to page 3 and of page 6 to page 0x21.
-fn put_tables(mem: &mut [u8]) {
-    let level1 = [0x00u8, 0x00, 0x20, 0x01];
-    let leaves = [0x00u8, 0x00, 0x30, 0x13, 0x00, 0x02, 0x10, 0x13];
-    put_bytes(mem, 0x1000, &level1);
-    put_bytes(mem, 0x2014, &leaves);
+fn put_tables(mem: &mut [u8; MEMORY]) {
+    mem[0x1000..0x1004].copy_from_slice(&[0x00, 0x00, 0x20, 0x01]);
+    mem[0x2014..0x201C].copy_from_slice(&[0x00, 0x00, 0x30, 0x13, 0x00, 0x02, 0x10, 0x13]);
 }
 
 // The four bytes that are read, and two in page 5's frame that are not.
-fn put_data(mem: &mut [u8]) {
-    let first = [0xA1u8, 0xA2];
-    let second = [0xA3u8, 0xA4];
-    let other = [0xB1u8, 0xB2];
-    put_bytes(mem, 0x0FFE, &first);
-    put_bytes(mem, 0x21000, &second);
-    put_bytes(mem, 0x3FFE, &other);
-}
-
-fn memory() -> [u8; 139264] {
-    let mut mem = [0u8; 139264];
-    put_tables(&mut mem);
-    put_data(&mut mem);
-    mem
-}
-
-// A blank and a number.
-fn put_field(out: &mut [u8], at: usize, v: u32, digits: u32) -> usize {
-    let next = put_byte(out, at, b' ');
-    put_hex(out, next, v, digits)
-}
-
-// A blank and a number in decimal.
-fn put_number(out: &mut [u8], at: usize, v: u64) -> usize {
-    let next = put_byte(out, at, b' ');
-    put_decimal(out, next, v)
-}
-
-fn put_entry(out: &mut [u8], at: usize, entry: TlbEntry) -> usize {
-    let valid = put_field(out, at, entry.valid as u32, 1);
-    let vpn = put_field(out, valid, entry.vpn, 8);
-    let ppn = put_field(out, vpn, entry.ppn, 8);
-    put_field(out, ppn, entry.flags, 2)
-}
-
-fn put_line(out: &mut [u8], value: u32, reads: u32, vm: Vm) -> usize {
-    let first = vm.tlb[0];
-    let shown = put_hex(out, 0, value, 8);
-    let read = put_number(out, shown, reads as u64);
-    let victim = put_number(out, read, vm.next_victim as u64);
-    let slot = put_entry(out, victim, first);
-    put_byte(out, slot, b'\n')
-}
-
-fn show<W: Write>(to: &mut W, value: u32, reads: u32, vm: Vm) -> io::Result<()> {
-    let mut out = [0u8; 128];
-    let end = put_line(&mut out, value, reads, vm);
-    if end <= 128 {
-        return to.write_all(&out[..end]);
-    }
-    Ok(())
-}
-
-fn load<W: Write>(to: &mut W, checked: AccessChecked, mem: &[u8]) -> io::Result<()> {
-    let sys = checked.sys;
-    let vm = sys.vm;
-    let read = sys.read_data(mem, 0, VA, 4);
-    let DataRead::Value(value) = read else {
-        return Ok(());
-    };
-    show(to, value, checked.reads, vm)
+fn put_data(mem: &mut [u8; MEMORY]) {
+    mem[0x0FFE..0x1000].copy_from_slice(&[0xA1, 0xA2]);
+    mem[0x21000..0x21002].copy_from_slice(&[0xA3, 0xA4]);
+    mem[0x3FFE..0x4000].copy_from_slice(&[0xB1, 0xB2]);
 }
 
 // Nothing is printed where the check denies the load or its data has a bus error.
 fn main(rt: HostRuntime) -> io::Result<()> {
-    let mem = memory();
+    let mut mem = [0u8; MEMORY];
+    put_tables(&mut mem);
+    put_data(&mut mem);
     let checked = user_state().check_access(&mem, 0, VA, 4, Access::Read);
-    let permission = checked.permission;
-    match permission {
-        Permission::Allowed => load(&mut rt.stdout(), checked, &mem),
-        _ => Ok(()),
+    if checked.permission.is_err() {
+        return Ok(());
     }
+    let Ok(value) = checked.sys.read_data(&mem, 0, VA, 4) else {
+        return Ok(());
+    };
+    let vm = checked.sys.vm;
+    let slot = vm.tlb[0];
+    let mut out = rt.stdout();
+    write!(out, "{value:08X} {} {}", checked.reads, vm.next_victim)?;
+    writeln!(
+        out,
+        " {:X} {:08X} {:08X} {:02X}",
+        slot.valid as u8, slot.vpn, slot.ppn, slot.flags
+    )
 }

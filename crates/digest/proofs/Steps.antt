@@ -1,30 +1,26 @@
--- One step of a digest: that the product fits before it is cut, and one word more. Assumes nothing.
-use Prim.Native.Nat.{ℕ, ◌+◌, ◌*◌, ◌/◌, ◌%◌, ◌^◌, ◌≤◌, ◌<◌}
-use mathlib.Core.Path.{◌≡◌, sym, ◌∙◌}
-use mathlib.Core.List.{List}
-use native.Mathlib.Nat.{div-one}
-use native.Mathlib.Numerals.{add-one}
-use native.Mathlib.Omega.{arith}
-use lib.Bits.{bit_xor, xor_lt}
-use lib.ListN.{length, get_or, drop, drop_of_length-le}
-use lib.Seq.{drop-cons}
-use mir.Syntax.{w64}
-use mir.Val.{Fits}
+-- One word or one byte more of a digest. Assumes nothing.
+use Rattle.std.proofs.Common.{ℕ, ◌+◌, ◌≤◌, ◌<◌, ◌≡◌, List, length, get_or, drop, sym, arith, ◌∙◌, add-one, drop-cons, drop_of_length-le, div-one, refl, w32}
+use Rattle.std.specs.Int.{to_be_bytes}
 use Rattle.common.specs.Bytes.{bytes_of}
-use Rattle.digest.specs.Digest.{fnv_byte, fnv_word, fnv_words}
+use Rattle.digest.specs.Digest.{fnv_byte, fnv_bytes, fnv_word, fnv_words}
 
-module _ (h b : ℕ) (hh : h < 2 ^ 32) (hb : b < 2 ^ 8) where
-  pub xor_fits : Fits w64 (bit_xor h b)
-  xor_fits = record { fits = omega (arith, xor_lt 32 h b hh (omega arith)) }
+-- one byte more of a word's four, and none left
+module _ (h w sum k : ℕ) (bytes : List ℕ) (e : bytes ≡ to_be_bytes w32 w) (p : fnv_bytes h bytes ≡ fnv_bytes sum (drop k bytes)) where
+  four : length bytes ≡ 4
+  four = rw e
 
-  pub product_fits : Fits w64 (bit_xor h b * 0x0100_0193)
-  product_fits = record { fits = omega (arith, xor_lt 32 h b hh (omega arith)) }
+  pub bytes_next : (sum' : ℕ) → k < 4 → sum' ≡ fnv_byte sum (get_or bytes k 0) → fnv_bytes h bytes ≡ fnv_bytes sum' (drop (k + 1) bytes)
+  bytes_next sum' g q =
+      let in-range : k < length bytes = omega (arith, four) in
+      p ∙ rw (drop-cons bytes k 0 in-range, add-one, q)
 
--- a word's four bytes, one after the other
-pub word_is : (h w r₁ r₂ r₃ r₄ : ℕ) → r₁ ≡ fnv_byte h (w / 16777216 % 256) → r₂ ≡ fnv_byte r₁ (w / 65536 % 256) → r₃ ≡ fnv_byte r₂ (w / 256 % 256)
-    → r₄ ≡ fnv_byte r₃ (w % 256) → r₄ ≡ fnv_word h w
-unfolding fnv_word bytes_of
-word_is h w r₁ r₂ r₃ r₄ p q s t = t ∙ rw (s, q, p, div-one w)
+  pub bytes_done : 4 ≤ k → sum ≡ fnv_word h w
+  unfolding fnv_word bytes_of
+  bytes_done g =
+      let past : length bytes ≤ k = omega (arith, four) in
+      let all : fnv_bytes h bytes ≡ sum = p ∙ rw (drop_of_length-le bytes past) in
+      let of-word : fnv_bytes h bytes ≡ fnv_word h w = rw e (rw (div-one w) refl) in
+      sym all ∙ of-word
 
 -- one word more of a list that is taken word by word, and none left
 pub words_next : (z sum sum' k : ℕ) (words : List ℕ) → k < length words → z ≡ fnv_words sum (drop k words) → sum' ≡ fnv_word sum (get_or words k 0)

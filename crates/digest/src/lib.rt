@@ -7,30 +7,34 @@ ghost use Rattle.digest.specs.Digest.{fnv_byte, fnv_word, fnv_words};
 // The digest of nothing.
 pub const FNV_START: u32 = 0x811C_9DC5;
 
-const FNV_PRIME: u64 = 0x0100_0193;
+const FNV_PRIME: u32 = 0x0100_0193;
 
+#[tactic(auto, unfolding(crate::specs::Digest::fnv_byte))]
 pub fn fnv_byte(h: u32, b: u8) -> u32
     ensures { result ≡ fnv_byte h b }
 {
-    (((h ^ (b as u32)) as u64) * FNV_PRIME % 0x1_0000_0000) as u32
+    (h ^ u32::from(b)).wrapping_mul(FNV_PRIME)
 }
 
 // A word as its four bytes, highest first.
+#[tactic(auto, using(crate::proofs::Steps::bytes_next, crate::proofs::Steps::bytes_done))]
 pub fn fnv_word(h: u32, w: u32) -> u32
     ensures { result ≡ fnv_word h w }
 {
-    let first = fnv_byte(h, ((w >> 24) % 256) as u8);
-    let second = fnv_byte(first, ((w >> 16) % 256) as u8);
-    let third = fnv_byte(second, ((w >> 8) % 256) as u8);
-    fnv_byte(third, (w % 256) as u8)
+    let mut sum = h;
+    for b in w.to_be_bytes() {
+        sum = fnv_byte(sum, b);
+    }
+    sum
 }
 
+#[tactic(auto, using(crate::proofs::Steps::words_next, crate::proofs::Steps::words_done))]
 pub fn fnv_words(h: u32, words: &[u32]) -> u32
     ensures { result ≡ fnv_words h words.now }
 {
     let mut sum = h;
-    for k in 0..words.len() {
-        sum = fnv_word(sum, words[k]);
+    for w in words {
+        sum = fnv_word(sum, *w);
     }
     sum
 }

@@ -22,8 +22,8 @@ pub fn put_number(out: &mut [u8], at: usize, v: u64) -> usize {
 
 pub fn put_words(out: &mut [u8], at: usize, words: &[u32]) -> usize {
     let mut place = at;
-    for k in 0..words.len() {
-        place = put_word(out, place, words[k]);
+    for &word in words {
+        place = put_word(out, place, word);
     }
     place
 }

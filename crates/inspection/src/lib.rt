@@ -10,7 +10,7 @@ mod state;
 use listing::{Line, put_end, put_line, put_refused};
 use machine::state::Machine;
 use script::event_at;
-use script::header::{Header, Script, copy_image, event_place, header_of};
+use script::header::{Header, copy_image, event_place, header_of};
 use std::io;
 use std::io::Write;
 use text::put_bytes;
@@ -68,24 +68,27 @@ fn show_good<W: Write>(
     copy_image(script, h.image_at as usize, mem);
     let mut machine = Machine::new(h.base, h.image, h.penalty);
     let mut before = [0u8; state::ROOM];
-    let mut k: u32 = 0;
-    while k < h.events {
+    for k in 0..h.events {
         let event = event_at(script, event_place(h, k));
         let stepped = machine.step(mem, h.base, event);
-        let after = stepped.machine;
-        machine = after;
-        let line = stepped.line;
-        show_event(to, k, line, &machine, mem, &mut before, only_changes)?;
-        k += 1;
+        machine = stepped.machine;
+        show_event(
+            to,
+            k,
+            stepped.line,
+            &machine,
+            mem,
+            &mut before,
+            only_changes,
+        )?;
     }
     show_end(to, h.events)
 }
 
 fn show_script<W: Write>(to: &mut W, script: &[u8], only_changes: bool) -> io::Result<()> {
-    let read = header_of(script);
-    match read {
-        Script::Refused(r) => show_refused(to, r.number()),
-        Script::Good(h) => {
+    match header_of(script) {
+        Err(refusal) => show_refused(to, refusal.number()),
+        Ok(h) => {
             let mut mem = [0u8; 32768];
             let image = h.image as usize;
             show_good(to, script, h, &mut mem[..image], only_changes)

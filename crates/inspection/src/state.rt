@@ -31,10 +31,9 @@ fn put_vm(out: &mut [u8], at: usize, vm: Vm) -> usize {
 
 // The bank is R28 to R30 of the mode that is not current.
 fn put_sys(out: &mut [u8], at: usize, sys: SystemState) -> usize {
-    let bank = sys.other_bank;
     let name = put_bytes(out, at, b"S sys");
     let trap = put_trap(out, name, sys);
-    let banked = put_words(out, trap, &bank);
+    let banked = put_words(out, trap, &sys.other_bank);
     put_vm(out, banked, sys.vm)
 }
 
@@ -46,8 +45,7 @@ fn put_region(out: &mut [u8], at: usize, region: Region) -> usize {
 
 fn put_regions(out: &mut [u8], at: usize, sys: SystemState) -> usize {
     let mut place = put_bytes(out, at, b"\nS rgn");
-    for i in 0..8 {
-        let region = sys.regions[i];
+    for region in sys.regions {
         place = put_region(out, place, region);
     }
     place
@@ -63,8 +61,7 @@ fn put_entry(out: &mut [u8], at: usize, entry: TlbEntry) -> usize {
 
 fn put_tlb(out: &mut [u8], at: usize, vm: Vm) -> usize {
     let mut place = put_bytes(out, at, b"\nS tlb");
-    for i in 0..16 {
-        let entry = vm.tlb[i];
+    for entry in vm.tlb {
         place = put_entry(out, place, entry);
     }
     place
@@ -89,8 +86,7 @@ fn put_enables(out: &mut [u8], at: usize, c: L1Cache) -> usize {
 }
 
 fn put_tags(out: &mut [u8], at: usize, bank: Bank) -> usize {
-    let tags = bank.tags;
-    put_word(out, at, fnv_words(FNV_START, &tags))
+    put_word(out, at, fnv_words(FNV_START, &bank.tags))
 }
 
 fn put_settings(out: &mut [u8], at: usize, c: L1Cache) -> usize {
@@ -106,15 +102,15 @@ fn put_cache(out: &mut [u8], at: usize, c: L1Cache) -> usize {
     put_settings(out, d, c)
 }
 
-fn put_registers(out: &mut [u8], at: usize, reg: [u32; 32]) -> usize {
+fn put_registers(out: &mut [u8], at: usize, reg: &[u32; 32]) -> usize {
     let name = put_bytes(out, at, b"\nS reg");
-    put_words(out, name, &reg)
+    put_words(out, name, reg)
 }
 
 fn mem_digest(mem: &[u8]) -> u32 {
     let mut h = FNV_START;
-    for k in 0..mem.len() {
-        h = fnv_byte(h, mem[k]);
+    for &byte in mem {
+        h = fnv_byte(h, byte);
     }
     h
 }
@@ -132,11 +128,10 @@ fn put_system(out: &mut [u8], at: usize, sys: SystemState) -> usize {
 }
 
 fn put_machine(out: &mut [u8], at: usize, m: &Machine) -> usize {
-    let reg = m.reg;
     let system = put_system(out, at, m.sys);
     let irqc = put_irqc(out, system, m.irqc);
     let cache = put_cache(out, irqc, m.cache);
-    put_registers(out, cache, reg)
+    put_registers(out, cache, &m.reg)
 }
 
 pub fn put_state(out: &mut [u8], at: usize, m: &Machine, mem: &[u8]) -> usize {

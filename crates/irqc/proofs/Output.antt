@@ -1,15 +1,10 @@
 -- The output, by the count of trailing zeros of the masked word, is the definition's search. Assumes nothing.
-use mathlib.Core.Path.{◌≡◌, refl, sym, ap, ap₂, ◌∙◌}
-use mathlib.Core.Bool.{Bool, true, false, cond, ◌&&◌}
-use Prim.Native.Nat.{ℕ, zero, suc, ◌+◌, ◌/◌, ◌%◌, ◌^◌, ◌≤◌, ◌<◌, min}
-use native.Mathlib.Nat.{zero-add, div-one, mod-lt, add-zero, add-suc, suc-add, min-le_left, lt_of_le_of_lt}
-use native.Mathlib.Numerals.{add-one}
-use native.Mathlib.Omega.{arith}
-use borrow.Author.Tests.{lt-ltb, le-ltb}
-use lib.Dec.{lit<, eqb, ltb, leb-suc-suc}
+use Rattle.std.proofs.Common.{◌≡◌, refl, sym, ap, ap₂, ◌∙◌, Bool, true, false, cond, ◌&&◌, ℕ, zero, suc, ◌+◌, ◌/◌, ◌%◌, ◌^◌, ◌≤◌, ◌<◌, min, zero-add, div-one, mod-lt, add-zero, add-suc, suc-add, lt_of_le_of_lt, add-one, arith, lt-ltb, le-ltb, lit<, eqb, ltb, shr-shr, bit_and}
+use Rattle.std.proofs.lemmas.Nat.{and_shr}
+use native.Mathlib.Nat.{min-le_left}
+use lib.Dec.{leb-suc-suc}
 use lib.Arith.{digits_mod}
-use lib.Pow.{shr-shr}
-use lib.Bits.{bit_and, and_step, and_shr}
+use lib.Bits.{and_step}
 use lib.Count.{count_trailing_zeros, under}
 use Rattle.common.specs.Bits.{bit_set}
 use Rattle.irqc.specs.Irqc.{output, lowest_from, output_of}

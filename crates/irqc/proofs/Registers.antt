@@ -1,26 +1,9 @@
 -- The bytes of a register's word. Assumes nothing.
-use mathlib.Core.Path.{◌≡◌, sym, ap, ap₂, ◌∙◌}
-use mathlib.Core.Bool.{Bool, not, ◌&&◌, and-true}
-use Prim.Native.Nat.{ℕ, ◌+◌, ◌*◌, ◌/◌, ◌%◌, ◌^◌, ◌<◌}
-use native.Mathlib.Nat.{mod-lt}
-use native.Mathlib.Omega.{arith}
-use lib.Dec.{eqb, lit<, lit≤}
-use lib.Pow.{shl_exact, shr-shr}
-use lib.Bits.{bit_and, bit_or, and_mask, and_high, or_shifted, or_shifted_r}
+use Rattle.std.proofs.Common.{◌≡◌, sym, ap, ap₂, ◌∙◌, Bool, not, ◌&&◌, ℕ, ◌+◌, ◌/◌, ◌%◌, ◌^◌, ◌<◌, mod-lt, arith, eqb, lit<, shr-shr}
+use Rattle.std.proofs.lemmas.Nat.{and_mask}
+use mathlib.Core.Bool.{and-true}
 use Rattle.common.specs.Bits.{bit_set, without_bits}
 use Rattle.common.specs.Bits.Laws.{bit_and_lem, bit_not, bit_of_zero, same_bits, without_bits_lem, without_bits_fits}
-
--- `(v as u16) << 8`
-pub high_byte : (v : ℕ) → v < 256 → v * 256 % 65536 ≡ v * 256
-high_byte v h = shl_exact 8 8 16 h (lit≤ tt)
-
--- the word with another high byte, `(e & 0x00FF) | (v << 8)`, and with another low byte, `(e & 0xFF00) | v`
-pub with_high : (e v : ℕ) → v < 256 → bit_or (bit_and e 255) (v * 256 % 65536) ≡ v * 256 + e % 256
-with_high e v h = ap₂ bit_or (and_mask e 8) (high_byte v h) ∙ or_shifted_r v 8 (e % 256) (mod-lt e (lit< tt))
-
-pub with_low : (e v : ℕ) → e < 65536 → v < 256 → bit_or (bit_and e 65280) v ≡ e / 256 * 256 + v
-with_low e v he hv =
-    ap (λ (x : ℕ). bit_or x v) (and_high e 8 8 ∙ (let q : e / 256 % 256 * 256 ≡ e / 256 * 256 = omega arith in q)) ∙ or_shifted (e / 256) 8 v hv
 
 -- ---- the bits of the two bytes
 

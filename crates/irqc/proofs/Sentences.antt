@@ -1,12 +1,5 @@
 -- Document 01's sentences on the controller, proved of the definitions. Assumes nothing.
-use mathlib.Core.Path.{◌≡◌, refl, sym, ap, ◌∙◌}
-use mathlib.Core.Logic.{⊎_elim}
-use mathlib.Core.Bool.{Bool, true, false, not, ◌&&◌, ◌||◌}
-use Prim.Native.Nat.{ℕ, zero, suc, ◌+◌, ◌*◌, ◌/◌, ◌%◌, ◌≤◌, ◌<◌}
-use native.Mathlib.Nat.{eq-or-lt_of_le}
-use native.Mathlib.Omega.{arith}
-use borrow.Author.Tests.{ne_eqb, eqb-true}
-use lib.Dec.{eqb}
+use Rattle.std.proofs.Common.{◌≡◌, refl, sym, ap, ◌∙◌, ⊎_elim, Bool, true, false, not, ◌&&◌, ◌||◌, ℕ, zero, suc, ◌+◌, ◌*◌, ◌/◌, ◌%◌, ◌≤◌, ◌<◌, eq-or-lt_of_le, arith, ne_eqb, eqb-true, eqb}
 use Rattle.common.specs.Cases.{bool_is, absurd_eq, cond_holds, cond_case}
 use Rattle.common.specs.Bits.{bit_set}
 use Rattle.common.specs.Bits.Laws.{without_bits_lem}

@@ -7,12 +7,9 @@
 --   unmoved, kept, again        == a source that is set to the level that it has changes nothing
 --   same                        == controllers that are alike at every source are equal
 -- Assumes nothing.
-use mathlib.Core.Path.{◌≡◌, refl, sym, ap, ap₂, ◌∙◌}
-use mathlib.Core.Logic.{⊎_elim}
-use mathlib.Core.Bool.{Bool, true, false, cond, not, ◌&&◌, ◌||◌, or-true, or-false, and-true}
-use Prim.Native.Nat.{ℕ, ◌^◌, ◌≤◌, ◌<◌}
-use borrow.Author.Tests.{lt-ltb, le-ltb, eq-eqb, ne_eqb, eqb-true, eqb-false}
-use lib.Dec.{eqb, ltb}
+use Rattle.std.proofs.Common.{◌≡◌, refl, sym, ap, ap₂, ◌∙◌, ⊎_elim, Bool, true, false, cond, not, ◌&&◌, ◌||◌, ℕ, ◌^◌, ◌≤◌, ◌<◌, lt-ltb, le-ltb, eq-eqb, ne_eqb, eqb-true, eqb, ltb}
+use Rattle.std.proofs.lemmas.Bool.{eqb-false}
+use mathlib.Core.Bool.{or-true, or-false, and-true}
 use Rattle.common.specs.Cases.{bool_is, cond_holds, and_false}
 use Rattle.common.specs.Bits.{bit_set, with_bit}
 use Rattle.common.specs.Bits.Laws.{same_bits, with_bit_lem, without_bit_lem, with_bit_fits, without_bits_fits}

@@ -1,14 +1,8 @@
 -- Several sources at once: each is as if it had been set alone, so a source more in the mask is that source set last; and since a source
 -- that keeps its level changes nothing, setting those that change sets all that the mask has. Assumes nothing.
-use mathlib.Core.Path.{◌≡◌, refl, sym, ap, ◌∙◌}
-use mathlib.Core.Logic.{⊎_elim}
-use mathlib.Core.Bool.{Bool, true, false, cond, not, ◌&&◌, or-true, or-false}
-use Prim.Native.Nat.{ℕ, zero, suc, ◌+◌, ◌*◌, ◌%◌, ◌^◌, ◌≤◌, ◌<◌}
-use native.Mathlib.Numerals.{add-one}
-use native.Mathlib.Omega.{arith}
-use borrow.Author.Tests.{eq-eqb, eqb-true, eqb-false}
-use lib.Dec.{lit≤, eqb}
-use lib.Bits.{bit_and, bit_xor}
+use Rattle.std.proofs.Common.{◌≡◌, refl, sym, ap, ◌∙◌, ⊎_elim, Bool, true, false, cond, not, ◌&&◌, ℕ, zero, suc, ◌+◌, ◌*◌, ◌%◌, ◌^◌, ◌≤◌, ◌<◌, add-one, arith, eq-eqb, eqb-true, lit≤, eqb, bit_and, bit_xor}
+use Rattle.std.proofs.lemmas.Bool.{eqb-false}
+use mathlib.Core.Bool.{or-true, or-false}
 use Rattle.common.specs.Cases.{bool_is, cond_holds, lt_or_ge}
 use Rattle.common.specs.Bits.{bit_set, with_bit}
 use Rattle.common.specs.Bits.Laws.{bit_and_lem, bit_xor_lem, bit_of_zero, other, with_bit_lem, one_shifted, flag_is, set_bit, clear_bit}

@@ -10,78 +10,68 @@ use crate::{IrqController, IrqOutput};
 pub extern "C" fn irqc_lent_reset(c: &mut IrqController)
     ensures { c.new ≡ new_controller }
 {
-    let s = *c;
-    *c = s.reset();
+    *c = c.reset();
 }
 
 #[unsafe(no_mangle)]
 pub extern "C" fn irqc_lent_pending(c: &IrqController) -> u16
     ensures { result ≡ c.now.pending }
 {
-    let s = *c;
-    s.pending()
+    c.pending()
 }
 
 #[unsafe(no_mangle)]
 pub extern "C" fn irqc_lent_enable_mask(c: &IrqController) -> u16
     ensures { result ≡ c.now.enable }
 {
-    let s = *c;
-    s.enable_mask()
+    c.enable_mask()
 }
 
 #[unsafe(no_mangle)]
 pub extern "C" fn irqc_lent_set_enable_mask(c: &mut IrqController, mask: u16)
     ensures { c.new ≡ mask_set c.old mask }
 {
-    let s = *c;
-    *c = s.set_enable_mask(mask);
+    *c = c.set_enable_mask(mask);
 }
 
 #[unsafe(no_mangle)]
 pub extern "C" fn irqc_lent_set_source(c: &mut IrqController, number: u32, level: bool)
     ensures { c.new ≡ source_set c.old number level }
 {
-    let s = *c;
-    *c = s.set_source(number, level);
+    *c = c.set_source(number, level);
 }
 
 #[unsafe(no_mangle)]
 pub extern "C" fn irqc_lent_set_source_levels(c: &mut IrqController, mask: u16, levels: u16)
     ensures { c.new ≡ levels_set c.old mask levels }
 {
-    let s = *c;
-    *c = s.set_source_levels(mask, levels);
+    *c = c.set_source_levels(mask, levels);
 }
 
 #[unsafe(no_mangle)]
 pub extern "C" fn irqc_lent_clear_pending(c: &mut IrqController, mask: u16)
     ensures { c.new ≡ pending_cleared c.old mask }
 {
-    let s = *c;
-    *c = s.clear_pending(mask);
+    *c = c.clear_pending(mask);
 }
 
 #[unsafe(no_mangle)]
 pub extern "C" fn irqc_lent_irq_output(c: &IrqController) -> IrqOutput
     ensures { result ≡ output_of c.now }
 {
-    let s = *c;
-    s.irq_output()
+    c.irq_output()
 }
 
 #[unsafe(no_mangle)]
 pub extern "C" fn irqc_lent_read(c: &IrqController, addr: u32) -> u8
     ensures { result ≡ byte_read c.now addr }
 {
-    let s = *c;
-    s.read(addr)
+    c.read(addr)
 }
 
 #[unsafe(no_mangle)]
 pub extern "C" fn irqc_lent_write(c: &mut IrqController, addr: u32, value: u8)
     ensures { c.new ≡ byte_written c.old addr value }
 {
-    let s = *c;
-    *c = s.write(addr, value);
+    *c = c.write(addr, value);
 }

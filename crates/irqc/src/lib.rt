@@ -12,6 +12,7 @@ pub mod lent;
 
 const SOURCE_COUNT: u32 = 16;
 
+// C reads both fields, so no `Option` stands here.
 #[repr(C)]
 #[derive(Clone, Copy)]
 pub struct IrqOutput {
@@ -97,17 +98,17 @@ impl IrqController {
         self.set_changed_source_levels(changed, on)
     }
 
-    fn set_changed_source_levels(self, changed: u16, levels: u16) -> Self
+    #[tactic(auto, using(crate::proofs::Sources::next_set, crate::proofs::Sources::next_skip), unfolding(crate::specs::Irqc::each_set))]
+    fn set_changed_source_levels(mut self, changed: u16, levels: u16) -> Self
         ensures { result ≡ each_set self changed levels 16 }
     {
-        let mut c = self;
         for number in 0..SOURCE_COUNT {
             let bit = 1u16 << number;
             if changed & bit != 0 {
-                c = c.set_source(number, levels & bit != 0);
+                self = self.set_source(number, levels & bit != 0);
             }
         }
-        c
+        self
     }
 
     pub fn clear_pending(mut self, mask: u16) -> Self
@@ -118,16 +119,16 @@ impl IrqController {
     }
 
     // The count of trailing zeros of the masked word is the lowest active source; 16 means none.
+    #[tactic(auto, using(crate::proofs::Output::output_some, crate::proofs::Output::output_none))]
     pub fn irq_output(self) -> IrqOutput
         ensures { result ≡ output_of self }
     {
         let active = self.pending & self.enable;
-        let n = u16::trailing_zeros(active);
-        if n < 16 {
-            let number = n as u8;
+        let n = active.trailing_zeros();
+        if n < SOURCE_COUNT {
             IrqOutput {
                 valid: true,
-                number,
+                number: n as u8,
             }
         } else {
             IrqOutput {
@@ -138,33 +139,37 @@ impl IrqController {
     }
 
     // One register byte, high byte first: 0 and 1 are pending, 4 and 5 enable, others read 0.
+    #[tactic(auto, unfolding(crate::specs::Irqc::byte_read))]
     pub fn read(self, addr: u32) -> u8
         ensures { result ≡ byte_read self addr }
     {
         match addr {
-            0 => (self.pending >> 8) as u8,
-            1 => (self.pending % 256) as u8,
-            4 => (self.enable >> 8) as u8,
-            5 => (self.enable % 256) as u8,
+            0 => self.pending.to_be_bytes()[0],
+            1 => self.pending.to_be_bytes()[1],
+            4 => self.enable.to_be_bytes()[0],
+            5 => self.enable.to_be_bytes()[1],
             _ => 0,
         }
     }
 
     // Writes one register byte: ones at 0 and 1 clear pending bits, 4 and 5 set a byte of enable, others do nothing.
+    #[tactic(auto, unfolding(crate::specs::Irqc::byte_written))]
     pub fn write(self, addr: u32, value: u8) -> Self
         ensures { result ≡ byte_written self addr value }
     {
+        let [high, low] = self.enable.to_be_bytes();
         match addr {
-            0 => self.clear_pending((value as u16) << 8),
-            1 => self.clear_pending(value as u16),
-            4 => self.set_enable_mask((self.enable & 0x00FF) | ((value as u16) << 8)),
-            5 => self.set_enable_mask((self.enable & 0xFF00) | (value as u16)),
+            0 => self.clear_pending(u16::from_be_bytes([value, 0])),
+            1 => self.clear_pending(u16::from_be_bytes([0, value])),
+            4 => self.set_enable_mask(u16::from_be_bytes([value, low])),
+            5 => self.set_enable_mask(u16::from_be_bytes([high, value])),
             _ => self,
         }
     }
 }
 
 // What the contracts above mean, source by source.
+#[tactic(auto, using(crate::proofs::Sentences::meaning_holds))]
 pub fn meaning()
     ensures { Meaning }
 {}

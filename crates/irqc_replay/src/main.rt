@@ -5,16 +5,17 @@
 // nothing. A line has pending, enable, valid, number, the register bytes 0 to 7, and the register byte at a.
 #![tactic(auto)]
 
-use input::read_full;
 use irqc::IrqController;
-use script::{EVENT_SIZE, Event};
-use std::io;
-use std::io::Write;
-use text::{put_byte, put_hex};
+use script::{EVENT_SIZE, Event, event_at};
+use std::fmt::{Display, Formatter};
+use std::io::{Read, Write};
+use std::{fmt, io};
+
+// What is read of the input; the rest is left.
+const INPUT_MAX: u64 = 65536;
 
 fn step(c: IrqController, e: Event) -> IrqController {
-    let kind = e.kind;
-    match kind {
+    match e.kind {
         0 => c.set_source(e.a, e.size != 0),
         1 => c.set_source_levels(e.aux, (e.a % 65536) as u16),
         2 => c.clear_pending(e.aux),
@@ -25,60 +26,36 @@ fn step(c: IrqController, e: Event) -> IrqController {
     }
 }
 
-// A number and the blank after it.
-fn put_field(line: &mut [u8], at: usize, v: u32, digits: u32) -> usize {
-    let next = put_hex(line, at, v, digits);
-    put_byte(line, next, b' ')
+// What the controller shows, and its register byte at an address.
+#[derive(Drop)]
+struct Shown {
+    controller: IrqController,
+    addr: u32,
 }
 
-fn put_words(line: &mut [u8], c: IrqController) -> usize {
-    let next = put_field(line, 0, c.pending() as u32, 4);
-    put_field(line, next, c.enable_mask() as u32, 4)
-}
-
-fn put_output(line: &mut [u8], at: usize, c: IrqController) -> usize {
-    let out = c.irq_output();
-    let valid = if out.valid { 1 } else { 0 };
-    let next = put_field(line, at, valid, 1);
-    put_field(line, next, out.number as u32, 2)
-}
-
-fn put_registers(line: &mut [u8], at: usize, c: IrqController) -> usize {
-    let mut place = at;
-    for addr in 0..8u32 {
-        place = put_hex(line, place, c.read(addr) as u32, 2);
+impl Display for Shown {
+    fn fmt<W: fmt::Write>(&self, f: &mut Formatter<W>) -> fmt::Result {
+        let c = self.controller;
+        let output = c.irq_output();
+        write!(f, "{:04X} {:04X} ", c.pending(), c.enable_mask())?;
+        write!(f, "{:X} {:02X} ", output.valid as u8, output.number)?;
+        for addr in 0..8 {
+            write!(f, "{:02X}", c.read(addr))?;
+        }
+        write!(f, " {:02X}", c.read(self.addr))
     }
-    put_byte(line, place, b' ')
-}
-
-fn put_line(line: &mut [u8], c: IrqController, addr: u32) -> usize {
-    let words = put_words(line, c);
-    let output = put_output(line, words, c);
-    let registers = put_registers(line, output, c);
-    let last = put_hex(line, registers, c.read(addr) as u32, 2);
-    put_byte(line, last, b'\n')
-}
-
-fn show<W: Write>(out: &mut W, c: IrqController, addr: u32) -> io::Result<()> {
-    let mut line = [0u8; 64];
-    let end = put_line(&mut line, c, addr);
-    if end <= 64 {
-        return out.write_all(&line[..end]);
-    }
-    Ok(())
 }
 
 fn main(rt: HostRuntime) -> io::Result<()> {
+    let mut input = Vec::new(rt.alloc());
+    rt.stdin().take(INPUT_MAX).read_to_end(&mut input)?;
     let mut out = rt.stdout();
-    let mut input = [0u8; 65536];
-    let n = read_full(&mut rt.stdin(), &mut input)?;
-    let mut c = IrqController::new();
-    let mut at: usize = 0;
-    while at < n {
-        let e = script::event_at(&input[..n], at);
-        c = step(c, e);
-        show(&mut out, c, e.a)?;
-        at += EVENT_SIZE;
+    let mut controller = IrqController::new();
+    for record in input.chunks(EVENT_SIZE) {
+        let e = event_at(record, 0);
+        controller = step(controller, e);
+        let addr = e.a;
+        writeln!(out, "{}", Shown { controller, addr })?;
     }
     Ok(())
 }

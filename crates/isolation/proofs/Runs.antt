@@ -1,10 +1,6 @@
 -- Runs of any length, by one access after the other. Assumes nothing.
-use Prim.Native.Nat.{ℕ}
-use mathlib.Core.Path.{◌≡◌, refl, ap₂, ◌∙◌}
-use mathlib.Core.Bool.{Bool, false}
-use mathlib.Core.List.{List, [], ◌∷◌}
-use lib.Dec.{eqb}
-use borrow.Author.Tests.{eqb-true, eqb-false}
+use Rattle.std.proofs.Common.{◌≡◌, ℕ, Bool, false, eqb, List, [], ◌∷◌, refl, ◌∙◌, ap₂, eqb-true}
+use borrow.Author.Tests.{eqb-false}
 use Rattle.common.specs.Cases.{absurd_eq}
 use Rattle.memory.specs.Memory.{Memory, byte_at}
 use Rattle.memory.specs.Memory.Laws.{same_map}

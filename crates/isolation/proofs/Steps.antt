@@ -1,16 +1,13 @@
 -- One access of two runs. Assumes nothing.
-use Prim.Native.Nat.{ℕ}
-use mathlib.Core.Path.{◌≡◌, refl, sym, ap, ◌∙◌}
-use mathlib.Core.Bool.{Bool, true, false}
-use mathlib.Core.List.{List}
-use mathlib.Core.Logic.{◌≢◌}
+use Rattle.std.proofs.Common.{◌≡◌, ℕ, Bool, true, false, ◌≢◌, List, Some, None, Ok, Err, Option, Result, sym, refl, ap, ◌∙◌}
 use Rattle.common.specs.Cases.{absurd_eq}
 use Rattle.common.specs.Lists.{Each, each_map}
 use Rattle.common.specs.declared.Refusal.{Refusal}
 use Rattle.memory.specs.Memory.{Memory, byte_at}
 use Rattle.memory.specs.Memory.Laws.{SameMap, outside_same}
-use Rattle.memory.specs.declared.Content.{Content}
-use Rattle.memory.specs.declared.Content.TheVariants.{Value, Outside}
+use Rattle.privilege.specs.declared.check.AccessError.TheVariants.{Denied, Refused}
+use Rattle.privilege.specs.declared.check.AccessError.{AccessError}
+use Rattle.privilege.specs.declared.transfer.DataError.{DataError}
 use Rattle.mmu.specs.Opened.{TableByte, Opened, opened}
 use Rattle.mmu.specs.Opened.Laws.{TablesAgree, Refilled, refilled_ptbr, refilled_slots, refilled_enabled, refilled_usable, table_same, usable_same}
 use Rattle.mmu.specs.declared.exception.Access.{Access}
@@ -22,12 +19,8 @@ use Rattle.privilege.specs.Confined.{Running, Refills, tables_check, check_refil
 use Rattle.privilege.specs.Transfer.{spots, memory_after}
 use Rattle.privilege.specs.Transfer.Laws.{load_same, store_same, store_map, store_both, store_other}
 use Rattle.privilege.specs.declared.check.AccessChecked.{AccessChecked}
-use Rattle.privilege.specs.declared.check.Permission.{Permission}
-use Rattle.privilege.specs.declared.check.Permission.TheVariants.{Allowed, Denied, Refused}
 use Rattle.privilege.specs.declared.state.SystemState.{SystemState}
-use Rattle.privilege.specs.declared.transfer.DataRead.{DataRead}
-use Rattle.privilege.specs.declared.transfer.DataWritten.{DataWritten}
-use Rattle.machine.specs.Access.{Result, is_read, access_answer, asked, read_outcome, write_outcome, access_of}
+use Rattle.machine.specs.Access.{Effect, is_read, access_answer, asked, read_outcome, write_outcome, access_of}
 use Rattle.machine.specs.Access.Laws.{access_refused, access_denied, access_read, access_written}
 use Rattle.machine.specs.State.{with_sys, with_cache}
 use Rattle.machine.specs.declared.access.Accessed.{Accessed}
@@ -36,7 +29,7 @@ use Rattle.isolation.specs.Premises.{Op, InPage, InUserMode, Sixteen, Alike, Sea
 use Rattle.isolation.specs.Demand3.{result_of, answer_of, Keeps}
 
 -- what one access of two runs leaves, and that the next one may follow
-pub record Held (hidden : ℕ → Bool) (vm : Vm) (m m' : Memory) (r r' : Result) : Type 0 where
+pub record Held (hidden : ℕ → Bool) (vm : Vm) (m m' : Memory) (r r' : Effect) : Type 0 where
   pub answer : answer_of r ≡ answer_of r'
   pub machine : r.accessed.machine ≡ r'.accessed.machine
   pub alike : Alike hidden r.memory r'.memory
@@ -113,7 +106,7 @@ module _ (hidden : ℕ → Bool) (M : Machine) (m m' : Memory) (run : InUserMode
         }
 
     -- refused: nothing has moved
-    held_refused : (r : Refusal) → c.permission ≡ Refused r → Held hidden M.sys.vm m m' (result_of o M m) (result_of o M m')
+    held_refused : (r : Refusal) → c.permission ≡ Err (Refused r) → Held hidden M.sys.vm m m' (result_of o M m) (result_of o M m')
     held_refused r p =
         rw (access_refused o.kind M m o.addr o.size o.value c refl r p, access_refused o.kind M m' o.addr o.size o.value c c_same r p)
         (record {
@@ -130,7 +123,7 @@ module _ (hidden : ℕ → Bool) (M : Machine) (m m' : Memory) (run : InUserMode
         })
 
     -- denied: the TLB may have been refilled
-    held_denied : (e : Exception) → c.permission ≡ Denied e → Held hidden M.sys.vm m m' (result_of o M m) (result_of o M m')
+    held_denied : (e : Exception) → c.permission ≡ Err (Denied e) → Held hidden M.sys.vm m m' (result_of o M m) (result_of o M m')
     held_denied e p =
         rw (access_denied o.kind M m o.addr o.size o.value c refl e p, access_denied o.kind M m' o.addr o.size o.value c c_same e p)
         (held_after _ _ m m' refl refl alike (λ a t. refl) (λ a h. refl) (λ a h. refl) (λ a n. refl))
@@ -139,7 +132,7 @@ module _ (hidden : ℕ → Bool) (M : Machine) (m m' : Memory) (run : InUserMode
     abbrev at : List ℕ
     at = spots c.sys o.addr o.size
 
-    module _ (p : c.permission ≡ Allowed) where
+    module _ (p : c.permission ≡ Ok tt) where
       open_at : Each (λ b. Opened m M.sys.vm o.kind b) at
       open_at = page_open m M.sys o.addr o.size o.kind run slots al.0 al.1 p
 
@@ -154,7 +147,7 @@ module _ (hidden : ℕ → Bool) (M : Machine) (m m' : Memory) (run : InUserMode
           let ask = asked o.kind M₂ at in
           rw (access_read o.kind M m o.addr o.size o.value c refl k p, access_read o.kind M m' o.addr o.size o.value c c_same k p)
           (held_after _ _ m m'
-          (ap (λ (d : DataRead). access_answer (with_cache M₂ ask.cache) (read_outcome d) ask.stall c.reads) (load_same m m' o.size at alike.map seen_alike))
+          (ap (λ (d : Result ℕ DataError). access_answer (with_cache M₂ ask.cache) (read_outcome d) ask.stall c.reads) (load_same m m' o.size at alike.map seen_alike))
           refl alike (λ a t. refl) (λ a h. refl) (λ a h. refl) (λ a n. refl))
 
       -- a byte that is not open to this access is at none of its addresses
@@ -164,7 +157,7 @@ module _ (hidden : ℕ → Bool) (M : Machine) (m m' : Memory) (run : InUserMode
 -- ---- a store
 
 module _ (hidden : ℕ → Bool) (M : Machine) (m m' : Memory) (run : InUserMode M) (slots : Sixteen M) (alike : Alike hidden m m') (here : Sealed hidden m M.sys.vm)
-    (a n v : ℕ) (al : InPage (record { kind = Write; addr = a; size = n; value = v })) (p : (check_access m M.sys a n Write).permission ≡ Allowed) where
+    (a n v : ℕ) (al : InPage (record { kind = Write; addr = a; size = n; value = v })) (p : (check_access m M.sys a n Write).permission ≡ Ok tt) where
   abbrev store : Op
   store = record { kind = Write; addr = a; size = n; value = v }
 
@@ -178,10 +171,10 @@ module _ (hidden : ℕ → Bool) (M : Machine) (m m' : Memory) (run : InUserMode
   tables_stay : TablesAgree m (memory_after m s a n v) M.sys.vm.ptbr
   tables_stay b t = by_content (byte_at m b) refl
     where
-      by_content : (x : Content) → byte_at m b ≡ x → byte_at m b ≡ byte_at (memory_after m s a n v) b
-      by_content Outside e = e ∙ sym (outside_same m (memory_after m s a n v) (flip (store_map m n (spots s a n) v)) b e)
-      by_content (Value y) e =
-          sym (store_other m n (spots s a n) v b (away b (here.unwritable b (λ z. absurd_eq (let q : Value y ≡ Outside = sym e ∙ z in cc)) t)))
+      by_content : (x : Option ℕ) → byte_at m b ≡ x → byte_at m b ≡ byte_at (memory_after m s a n v) b
+      by_content None e = e ∙ sym (outside_same m (memory_after m s a n v) (flip (store_map m n (spots s a n) v)) b e)
+      by_content (Some y) e =
+          sym (store_other m n (spots s a n) v b (away b (here.unwritable b (λ z. absurd_eq (let q : Some y ≡ None = sym e ∙ z in cc)) t)))
 
   -- hidden bytes stay, in either memory
   hidden_stays : (x : Memory) → Keeps hidden x (memory_after x s a n v)
@@ -205,13 +198,13 @@ module _ (hidden : ℕ → Bool) (M : Machine) (m m' : Memory) (run : InUserMode
       let ask = asked Write M₂ (spots s a n) in
       rw (access_written M m a n v k refl p, access_written M m' a n v k (c_same hidden M m m' run slots alike here store al) p)
       (held_after hidden M m m' run slots alike here store al _ _ (memory_after m s a n v) (memory_after m' s a n v)
-      (ap (λ (d : DataWritten). access_answer (with_cache M₂ ask.cache) (write_outcome d) ask.stall k.reads) (store_same m m' n (spots s a n) alike.map))
+      (ap (λ (d : Result (Unit {0}) DataError). access_answer (with_cache M₂ ask.cache) (write_outcome d) ask.stall k.reads) (store_same m m' n (spots s a n) alike.map))
       refl still_alike tables_stay (hidden_stays m) (hidden_stays m') (λ b shut. store_other m n (spots s a n) v b (away b shut)))
 
 -- ---- any access
 
 allowed_held : (hidden : ℕ → Bool) (M : Machine) (m m' : Memory) → InUserMode M → Sixteen M → Alike hidden m m' → Sealed hidden m M.sys.vm → (k : Access) (a n v : ℕ)
-    → InPage (record { kind = k; addr = a; size = n; value = v }) → (check_access m M.sys a n k).permission ≡ Allowed
+    → InPage (record { kind = k; addr = a; size = n; value = v }) → (check_access m M.sys a n k).permission ≡ Ok tt
     → Held hidden M.sys.vm m m' (access_of k M m a n v) (access_of k M m' a n v)
 allowed_held hidden M m m' run slots alike here Read a n v al p = held_read hidden M m m' run slots alike here (record { kind = Read; addr = a; size = n; value = v }) al p refl
 allowed_held hidden M m m' run slots alike here Fetch a n v al p = held_read hidden M m m' run slots alike here (record { kind = Fetch; addr = a; size = n; value = v }) al p refl
@@ -221,7 +214,7 @@ pub held : (hidden : ℕ → Bool) (M : Machine) (m m' : Memory) → InUserMode 
     → Held hidden M.sys.vm m m' (result_of o M m) (result_of o M m')
 held hidden M m m' run slots alike here o al = by_permission (check_access m M.sys o.addr o.size o.kind).permission refl
   where
-    by_permission : (q : Permission) → (check_access m M.sys o.addr o.size o.kind).permission ≡ q → Held hidden M.sys.vm m m' (result_of o M m) (result_of o M m')
-    by_permission Allowed p = allowed_held hidden M m m' run slots alike here o.kind o.addr o.size o.value al p
-    by_permission (Denied e) p = held_denied hidden M m m' run slots alike here o al e p
-    by_permission (Refused r) p = held_refused hidden M m m' run slots alike here o al r p
+    by_permission : (q : Result (Unit {0}) AccessError) → (check_access m M.sys o.addr o.size o.kind).permission ≡ q → Held hidden M.sys.vm m m' (result_of o M m) (result_of o M m')
+    by_permission (Ok tt) p = allowed_held hidden M m m' run slots alike here o.kind o.addr o.size o.value al p
+    by_permission (Err (Denied e)) p = held_denied hidden M m m' run slots alike here o al e p
+    by_permission (Err (Refused r)) p = held_refused hidden M m m' run slots alike here o al r p

@@ -9,21 +9,20 @@
 --   Demand3          == the demand, which follows from it
 --   Integrity        == a user's run changes no byte outside the pages that are open to it for writing
 --   Confidentiality  == a user's run shows nothing of a byte that lies in no page open to it and in no table
-use Rattle.std.specs.Prelude.{ℕ, ◌≡◌, Bool, true, List, [], ◌∷◌, ◌≢◌}
+use Rattle.std.specs.Prelude.{ℕ, ◌≡◌, Bool, true, List, [], ◌∷◌, ◌≢◌, None, Result}
 use Rattle.memory.specs.Memory.{Memory, byte_at}
 use Rattle.memory.specs.Memory.Laws.{SameMap}
-use Rattle.memory.specs.declared.Content.TheVariants.{Outside}
+use Rattle.machine.specs.declared.access.Fault.{Fault}
 use Rattle.mmu.specs.Opened.{TableByte, Opened}
 use Rattle.mmu.specs.declared.exception.Access.{Access}
 use Rattle.mmu.specs.declared.exception.Access.TheVariants.{Write}
 use Rattle.mmu.specs.declared.vm.Vm.{Vm}
-use Rattle.machine.specs.Access.{Result, access_of}
-use Rattle.machine.specs.declared.access.Outcome.{Outcome}
+use Rattle.machine.specs.Access.{Effect, access_of}
 use Rattle.machine.specs.declared.state.Machine.{Machine}
 use Rattle.isolation.specs.Premises.{Op, AllAligned, AllInPage, InUserMode, Sixteen, Alike, Sealed}
 
 pub record Answer : Type 0 where
-  pub outcome : Outcome
+  pub outcome : Result ℕ Fault
   pub stall : ℕ
   pub reads : ℕ
 
@@ -32,10 +31,10 @@ pub record Ran : Type 0 where
   pub machine : Machine
   pub memory : Memory
 
-abbrev pub result_of : Op → Machine → Memory → Result
+abbrev pub result_of : Op → Machine → Memory → Effect
 result_of o M m = access_of o.kind M m o.addr o.size o.value
 
-abbrev pub answer_of : Result → Answer
+abbrev pub answer_of : Effect → Answer
 answer_of r = record { outcome = r.accessed.outcome; stall = r.accessed.stall; reads = r.accessed.reads }
 
 abbrev pub before : Answer → Ran → Ran
@@ -73,7 +72,7 @@ Demand3 =
 
 -- premise 3 alone: no table byte of the map lies in a page that is open for user writing
 abbrev pub TablesShut : Memory → Vm → Type 0
-TablesShut m vm = (a : ℕ) → byte_at m a ≢ Outside → TableByte m vm.ptbr a → ¬ Opened m vm Write a
+TablesShut m vm = (a : ℕ) → byte_at m a ≢ None → TableByte m vm.ptbr a → ¬ Opened m vm Write a
 
 -- "can it touch the finish line's crossings?": a byte in no page that is open for writing is as it was
 unfoldable pub Integrity : Type 0

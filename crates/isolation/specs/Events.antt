@@ -6,13 +6,12 @@
 --   Entered hidden x x' == two runs have come to one machine in user mode, over memories that differ in sealed hidden bytes alone
 --   InRuns              == where first events print the same lines and come there, and the others are aligned accesses, all lines are the same
 --   InScripts           == so two scripts whose images differ only in hidden bytes print the same listing
-use Rattle.std.specs.Prelude.{ℕ, ◌<◌, ◌≡◌, Bool, List, [], ◌∷◌, ◌++◌}
+use Rattle.std.specs.Prelude.{ℕ, ◌<◌, ◌≡◌, Bool, List, [], ◌∷◌, ◌++◌, Ok}
 use Rattle.listing.specs.declared.Line.{Line}
 use Rattle.memory.specs.Memory.{Memory}
 use Rattle.script.specs.Header.{script_of}
 use Rattle.script.specs.declared.Event.{Event}
 use Rattle.script.specs.declared.header.Header.{Header}
-use Rattle.script.specs.declared.header.Script.TheVariants.{Good}
 use Rattle.machine.specs.Event.{line_of, access_kind, stored_by}
 use Rattle.machine.specs.Run.{Run, run_over, script_events, first_machine, first_memory, listing_of}
 use Rattle.machine.specs.declared.state.Machine.{Machine}
@@ -45,7 +44,7 @@ InRuns =
 
 unfoldable pub InScripts : Type 0
 InScripts =
-    (hidden : ℕ → Bool) (first others : List Event) (s s' : List ℕ) (h h' : Header) → script_of s ≡ Good h → script_of s' ≡ Good h'
+    (hidden : ℕ → Bool) (first others : List Event) (s s' : List ℕ) (h h' : Header) → script_of s ≡ Ok h → script_of s' ≡ Ok h'
     → script_events s h ≡ first ++ others → script_events s' h' ≡ first ++ others
     → Entered hidden (run_over first (first_machine h) (first_memory s h)) (run_over first (first_machine h') (first_memory s' h')) → AllAccesses others
     → listing_of s ≡ listing_of s'

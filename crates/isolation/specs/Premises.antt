@@ -12,10 +12,9 @@
 -- What a table byte is, what opens a page to users and for which access, the MMU's `specs/Opened.antt` says. A hidden byte may lie outside
 -- the map, where there is nothing to hide. A choice of bytes is decided address by address, and that loses nothing: outside any set at all two
 -- memories that are alike differ at addresses that comparing bytes decides, all of them in the set; that its other bytes stay is `Integrity`. The third premise is asked of table bytes inside the map alone: a store cannot change another.
-use Rattle.std.specs.Prelude.{ℕ, ◌+◌, ◌%◌, ◌^◌, ◌≤◌, ◌<◌, ◌≡◌, Bool, true, false, List, [], ◌∷◌, ◌≢◌, length}
+use Rattle.std.specs.Prelude.{ℕ, ◌+◌, ◌%◌, ◌^◌, ◌≤◌, ◌<◌, ◌≡◌, Bool, true, false, List, [], ◌∷◌, ◌≢◌, length, None}
 use Rattle.memory.specs.Memory.{Memory, byte_at}
 use Rattle.memory.specs.Memory.Laws.{SameMap}
-use Rattle.memory.specs.declared.Content.TheVariants.{Outside}
 use Rattle.mmu.specs.Opened.{TableByte, Opened}
 use Rattle.mmu.specs.declared.exception.Access.{Access}
 use Rattle.mmu.specs.declared.exception.Access.TheVariants.{Write}
@@ -59,4 +58,4 @@ pub record Alike (hidden : ℕ → Bool) (m m' : Memory) : Type 0 where
 pub record Sealed (hidden : ℕ → Bool) (m : Memory) (vm : Vm) : Type 0 where
   pub tables : (a : ℕ) → hidden a ≡ true → ¬ TableByte m vm.ptbr a
   pub pages : (a : ℕ) → hidden a ≡ true → (k : Access) → ¬ Opened m vm k a
-  pub unwritable : (a : ℕ) → byte_at m a ≢ Outside → TableByte m vm.ptbr a → ¬ Opened m vm Write a
+  pub unwritable : (a : ℕ) → byte_at m a ≢ None → TableByte m vm.ptbr a → ¬ Opened m vm Write a

@@ -10,10 +10,5 @@ pub fn copy(to: &mut [u32], from: &[u32])
     if to.len() != from.len() {
         return;
     }
-    let n = from.len();
-    let mut i: usize = 0;
-    while i < n {
-        to[i] = from[i];
-        i += 1;
-    }
+    to.copy_from_slice(from);
 }

@@ -1,7 +1,5 @@
 -- Texts that are written one after the other, by what the calls left. Assumes nothing.
-use Prim.Native.Nat.{ℕ}
-use mathlib.Core.Path.{◌≡◌, sym, ap, ◌∙◌}
-use mathlib.Core.List.{List, [], ◌∷◌, ◌++◌, append_assoc}
+use Rattle.std.proofs.Common.{ℕ, ◌≡◌, sym, ap, ◌∙◌, List, [], ◌∷◌, ◌++◌, append_assoc}
 use Rattle.text.specs.Text.{written, hex_of, decimal_of}
 use Rattle.text.specs.Text.Laws.{written_append}
 use Rattle.listing.specs.Listing.{newline, spaced, line_text, numbered}

@@ -1,9 +1,5 @@
 -- The figures, by computing. Assumes nothing.
-use Prim.Native.Nat.{ℕ}
-use mathlib.Core.Path.{◌≡◌, refl}
-use mathlib.Core.Bool.{true}
-use mathlib.Core.List.{[], ◌∷◌}
-use lib.Dec.{ltb}
+use Rattle.std.proofs.Common.{ℕ, ◌≡◌, refl, true, [], ◌∷◌, ltb}
 use Rattle.text.specs.Text.{decimal_byte, decimal_of}
 use Rattle.listing.specs.Listing.{ascii, line_text, end_text, refused_text, lines_from, listing_text}
 use Rattle.text.specs.Text.Laws.{hex_eight, decimal_step}

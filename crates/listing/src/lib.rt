@@ -17,7 +17,7 @@ pub const LISTING_MAX: usize = 131_072;
 // What one event shows.
 #[derive(Clone, Copy)]
 pub struct Line {
-    // V for a value, X for an exception, B for a bus error on data, N for a refusal.
+    // V for a value, X for an exception, B for a bus error on data, N for a refusal. `new` takes any byte, so no enum stands here.
     pub letter: u8,
     // The value, the CAUSE, 0, or the refusal's number.
     pub digits: u32,
@@ -55,6 +55,7 @@ fn put_spaced_hex(out: &mut [u8], at: usize, v: u32) -> usize
     put_hex(out, next, v, 8)
 }
 
+// It differs from `put_spaced_hex` in one call: a closure for that would be longer than the function.
 fn put_spaced_decimal(out: &mut [u8], at: usize, v: u64) -> usize
     ensures { (out.new, result) ≡ written (out.old, at) (spaced (decimal_of v)) }
 {
@@ -93,6 +94,7 @@ fn put_numbered(out: &mut [u8], at: usize, word: &[u8], n: u32) -> usize
 }
 
 // The last line of a run of n events.
+#[tactic(auto, unfolding(crate::specs::Listing::end_text))]
 pub fn put_end(out: &mut [u8], at: usize, n: u32) -> usize
     ensures { (out.new, result) ≡ written (out.old, at) (end_text n) }
 {
@@ -100,6 +102,7 @@ pub fn put_end(out: &mut [u8], at: usize, n: u32) -> usize
 }
 
 // The only line of a script that is refused.
+#[tactic(auto, unfolding(crate::specs::Listing::refused_text))]
 pub fn put_refused(out: &mut [u8], at: usize, n: u32) -> usize
     ensures { (out.new, result) ≡ written (out.old, at) (refused_text n) }
 {
@@ -107,6 +110,7 @@ pub fn put_refused(out: &mut [u8], at: usize, n: u32) -> usize
 }
 
 // The document's whole case, computed.
+#[tactic(auto, using(crate::proofs::Figures::corners_hold))]
 pub fn corners()
     ensures { Corners }
 {}

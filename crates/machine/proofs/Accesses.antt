@@ -1,5 +1,7 @@
 -- An access where the machine's words stand: its check, the cache, and what it comes to by what the check permits. Assumes nothing.
-use Rattle.std.proofs.Common.{◌≡◌, ℕ, zero, suc, ◌+◌, ◌%◌, ◌^◌, ◌<◌, Bool, true, false, cond, eqb, List, length, sym, refl, ap, ◌∙◌, arith, ne_eqb}
+use Rattle.std.proofs.Common.{◌≡◌, ℕ, zero, suc, ◌+◌, ◌%◌, ◌^◌, ◌<◌, Bool, true, false, cond, eqb, List, length, sym, refl, ap, ◌∙◌, arith, ne_eqb, Option, Some, None, Result, Ok, Err, ok_or}
+use Rattle.std.specs.Bool.{then_some}
+use Rattle.std.specs.Result.{MatchResult, IsErrAnd, result_and}
 use Rattle.cache.specs.Cache.{loaded, fetched, stored}
 use Rattle.cache.specs.Flat.{cache_words, cache_at, Costs, Changes}
 use Rattle.cache.specs.declared.CacheAccess.{CacheAccess}
@@ -9,8 +11,12 @@ use Rattle.common.specs.declared.Refusal.{Refusal}
 use Rattle.layout.specs.Words.{part, put}
 use Rattle.memory.specs.Gate.{map_good}
 use Rattle.memory.specs.Memory.{Memory, lent, good_map, read_at, word_spots, all_writable, put_at}
-use Rattle.memory.specs.declared.Content.{Content}
-use Rattle.memory.specs.declared.Content.TheVariants as content
+use Rattle.machine.specs.declared.access.Fault.TheVariants as outcome
+use Rattle.machine.specs.declared.access.Fault.{Fault}
+use Rattle.privilege.specs.declared.check.AccessError.TheVariants.{Denied, Refused}
+use Rattle.privilege.specs.declared.check.AccessError.{AccessError}
+use Rattle.privilege.specs.declared.transfer.DataError.TheVariants as missing
+use Rattle.privilege.specs.declared.transfer.DataError.{DataError}
 use Rattle.mmu.specs.declared.exception.Access.{Access}
 use Rattle.mmu.specs.declared.exception.Access.TheVariants.{Read, Write, Fetch}
 use Rattle.mmu.specs.declared.exception.Exception.{Exception}
@@ -24,70 +30,39 @@ use Rattle.privilege.specs.Rows.Laws.{word_loaded, word_stored, word_left}
 use Rattle.privilege.specs.Transfer.{physical_of, spots, read_of, load_at, store_at, memory_at}
 use Rattle.privilege.specs.Transfer.Laws.{spots_next}
 use Rattle.privilege.specs.declared.check.AccessChecked.{AccessChecked}
-use Rattle.privilege.specs.declared.check.Permission.{Permission}
-use Rattle.privilege.specs.declared.check.Permission.TheVariants.{Allowed, Denied, Refused}
 use Rattle.privilege.specs.declared.flat.access.Grant.{Grant}
 use Rattle.privilege.specs.declared.flat.access.Permit.{Permit}
 use Rattle.privilege.specs.declared.state.SystemState.{SystemState}
-use Rattle.privilege.specs.declared.transfer.DataRead.{DataRead}
-use Rattle.privilege.specs.declared.transfer.DataRead.TheVariants as read
-use Rattle.privilege.specs.declared.transfer.DataWritten.{DataWritten}
-use Rattle.privilege.specs.declared.transfer.DataWritten.TheVariants as written
 use Rattle.script.specs.declared.Event.{Event}
-use Rattle.machine.specs.Access.{Result, is_read, access_answer, presented, asked, read_outcome, write_outcome, moved, permitted, looked_up, access_of}
+use Rattle.machine.specs.Access.{Effect, is_read, fault_of, data_fault, access_answer, presented, asked, read_outcome, write_outcome, moved, permitted, looked_up, access_of}
 use Rattle.machine.specs.Access.Laws.{asked_first, read_moved, write_moved, access_allowed, access_denied, access_refused, access_keeps}
 use Rattle.machine.specs.Event.{access_kind, stored_by}
-use Rattle.machine.specs.Flat.{cache_from, state_words, machine_at, answer_of, accessed_as, Asks, Permits, checked_in, ReadsPermitted, WritesPermitted, Accesses, AccessesAny, Grants, ReadsGranted, WritesGranted, no_answer}
+use Rattle.machine.specs.Flat.{cache_from, state_words, machine_at, answer_of, accessed_as, Asks, Permits, checked_in, ReadsPermitted, WritesPermitted, Accesses, AccessesAny, Grants, ReadsGranted, WritesGranted}
 use Rattle.machine.specs.State.{with_sys, with_cache}
 use Rattle.machine.specs.declared.access.Accessed.{Accessed}
-use Rattle.machine.specs.declared.access.Outcome.{Outcome}
-use Rattle.machine.specs.declared.access.Outcome.TheVariants as outcome
 use Rattle.machine.specs.declared.flat.access.Answer.{Answer}
 use Rattle.machine.specs.declared.state.Machine.{Machine}
 use Rattle.machine.proofs.Words.{sys_long, cache_long, sys_left, sys_put, cache_left, cache_put}
 
 -- ---- what the data answers, and the access of a kind
 
-module _ (d : DataRead) where
-  pub read_value : (v : ℕ) → d ≡ read.Value v → outcome.Value v ≡ read_outcome d
-  unfolding read_outcome
-  read_value v h = rw h
+-- what `map_err` makes of the data's answer
+pub read_mapped : (d : Result ℕ DataError) (o : Result ℕ Fault) → MatchResult d (λ v. o ≡ Ok v) (λ e. IsErrAnd o (λ f. f ≡ data_fault e)) → o ≡ read_outcome d
+unfolding read_outcome
+read_mapped (Ok v) o h = h
+read_mapped (Err e) (Ok v) h = absurd h
+read_mapped (Err e) (Err f) h = ap Err h
 
-  pub read_bus : d ≡ read.BusError → outcome.BusError ≡ read_outcome d
-  unfolding read_outcome
-  read_bus h = rw h
-
-  pub read_refusal : (r : Refusal) → d ≡ read.Refused r → outcome.Refused r ≡ read_outcome d
-  unfolding read_outcome
-  read_refusal r h = rw h
-
-module _ (d : DataWritten) where
-  pub written_done : d ≡ written.Done → outcome.Value 0 ≡ write_outcome d
-  unfolding write_outcome
-  written_done h = rw h
-
-  pub written_bus : d ≡ written.BusError → outcome.BusError ≡ write_outcome d
-  unfolding write_outcome
-  written_bus h = rw h
-
-  pub written_refusal : (r : Refusal) → d ≡ written.Refused r → outcome.Refused r ≡ write_outcome d
-  unfolding write_outcome
-  written_refusal r h = rw h
+-- and of a store's, with 0 for its value
+pub written_mapped : (d : Result (Unit {0}) DataError) (r : Result ℕ DataError) (o : Result ℕ Fault) → r ≡ result_and d (Ok 0)
+    → MatchResult r (λ v. o ≡ Ok v) (λ e. IsErrAnd o (λ f. f ≡ data_fault e)) → o ≡ write_outcome d
+unfolding read_outcome write_outcome
+written_mapped (Ok tt) r o h g = read_mapped r o g ∙ rw h
+written_mapped (Err e) r o h g = read_mapped r o g ∙ rw h
 
 module _ (kind : ℕ) where
-  pub kind_load : kind ≡ 0 → Read ≡ access_kind kind
-  kind_load h = rw h
-
-  pub kind_store : kind ≡ 1 → Write ≡ access_kind kind
-  kind_store h = rw h
-
-  pub kind_fetch : (kind ≡ 0 → ⊥) → (kind ≡ 1 → ⊥) → Fetch ≡ access_kind kind
-  kind_fetch h g = rw (ne_eqb kind 0 h, ne_eqb kind 1 g)
-
   pub kind_reads : (k : Access) → (kind ≡ 1 → ⊥) → k ≡ access_kind kind → is_read k ≡ true
   kind_reads k h is = rw (is, ne_eqb kind 1 h) (cond_holds (λ (x : Access). is_read x ≡ true) (eqb kind 0) refl refl)
-
-pub ruleset outcomes = (read_value, read_bus, read_refusal, written_done, written_bus, written_refusal, kind_load, kind_store, kind_fetch)
 
 -- ---- the cache
 
@@ -136,25 +111,24 @@ module _ (m : Memory) (k : Access) (a n v : ℕ) (s : SystemState) (M : Machine)
   abbrev c : AccessChecked
   c = check_access m s a n k
 
-  answers : (o : Permission) → p.permission ≡ o → c.permission ≡ o
+  answers : (o : Result (Unit {0}) AccessError) → p.permission ≡ o → c.permission ≡ o
   answers o e = ap (λ (q : Permit). q.permission) (sym is) ∙ e
 
   reads_same : p.reads ≡ c.reads
   reads_same = ap (λ (q : Permit). q.reads) is
 
-  denied_is : (e : Exception) → p.permission ≡ Denied e
-      → checked_in s M m a n v k ≡ record { accessed = accessed_as (answer_of (outcome.Exception e) 0 p.reads) M; memory = m }
+  failed_is : (e : AccessError) → p.permission ≡ Err e
+      → checked_in s M m a n v k ≡ record { accessed = accessed_as (answer_of (Err (fault_of e)) 0 p.reads) M; memory = m }
   unfolding permitted
-  denied_is e h = rw (answers (Denied e) h, same_sys M c.sys at, reads_same)
+  failed_is (Denied e) h = rw (answers (Err (Denied e)) h, same_sys M c.sys at, reads_same)
+  failed_is (Refused r) h =
+      let is : c.permission ≡ Err (Refused r) = answers (Err (Refused r)) h in
+      let none : p.reads ≡ 0 = reads_same ∙ ap (λ (c : AccessChecked). c.reads) (refused_nothing m s a n k r is) in
+      rw (is, none)
 
-  refused_is : (r : Refusal) → p.permission ≡ Refused r
-      → checked_in s M m a n v k ≡ record { accessed = accessed_as (answer_of (outcome.Refused r) 0 0) M; memory = m }
-  unfolding permitted
-  refused_is r h = rw (answers (Refused r) h)
-
-  module _ (h : p.permission ≡ Allowed) (small : a < 2 ^ 32) where
-    allowed : c.permission ≡ Allowed
-    allowed = answers Allowed h
+  module _ (h : p.permission ≡ Ok tt) (small : a < 2 ^ 32) where
+    allowed : c.permission ≡ Ok tt
+    allowed = answers (Ok tt) h
 
     bytes_are : rows_of a n p.pa p.pb ≡ looked_up c a n
     bytes_are =
@@ -187,7 +161,7 @@ module _ (m : Memory) (k : Access) (a n v : ℕ) (s : SystemState) (M : Machine)
     read_is r = allowed_is ∙ read_moved k M m (looked_up c a n) n v p.reads r ∙ rw (line_is, bytes_are)
 
 written_is : (m : Memory) (a n v : ℕ) (s : SystemState) (M : Machine) (p : Permit) → M.sys ≡ (check_access m s a n Write).sys
-    → p ≡ permit_of (check_access m s a n Write) a n → p.permission ≡ Allowed → a < 2 ^ 32
+    → p ≡ permit_of (check_access m s a n Write) a n → p.permission ≡ Ok tt → a < 2 ^ 32
     → checked_in s M m a n v Write
     ≡ record {
       accessed =
@@ -201,95 +175,81 @@ written_is m a n v s M p at is h small =
 
 -- ---- a load or fetch on the words
 
-abbrev accessed : Result → Accessed
+abbrev accessed : Effect → Accessed
 accessed r = r.accessed
 
 module _ (l : List ℕ) (m : Memory) (a n : ℕ) (k : Access) (p : Permit) (r : Answer) where
-  pub reads_denied : (e : Exception) → p.permission ≡ Denied e → r ≡ answer_of (outcome.Exception e) 0 p.reads → ReadsPermitted l l m a n k p r
-  reads_denied e h j = (refl, λ s at is. rw j (sym (ap accessed (denied_is m k a n 0 s (machine_at l) p at is e h))))
+  pub reads_failed : (e : AccessError) (x : Fault) → p.permission ≡ Err e → x ≡ fault_of e → r ≡ answer_of (Err x) 0 p.reads → ReadsPermitted l l m a n k p r
+  reads_failed e x h g j = (refl, λ s at is. rw (j, g) (sym (ap accessed (failed_is m k a n 0 s (machine_at l) p at is e h))))
 
-  pub reads_refused : (e : Refusal) → p.permission ≡ Refused e → r ≡ answer_of (outcome.Refused e) 0 0 → ReadsPermitted l l m a n k p r
-  reads_refused e h j = (refl, λ s at is. rw j (sym (ap accessed (refused_is m k a n 0 s (machine_at l) p at is e h))))
-
-  pub reads_allowed : (l₁ : List ℕ) (stall : ℕ) (d : DataRead) (o : Outcome) → is_read k ≡ true → a < 2 ^ 32 → p.permission ≡ Allowed → Asks l l₁ k p.pa stall
+  pub reads_allowed : (l₁ : List ℕ) (stall : ℕ) (d : Result ℕ DataError) (o : Result ℕ Fault) → is_read k ≡ true → a < 2 ^ 32 → p.permission ≡ Ok tt → Asks l l₁ k p.pa stall
       → d ≡ load_at m n (rows_of a n p.pa p.pb) → o ≡ read_outcome d → r ≡ answer_of o stall p.reads → ReadsPermitted l l₁ m a n k p r
   reads_allowed l₁ stall d o read small h w e q j =
       (w.0.0, λ s at is. rw (j, q, e, w.0.1, w.1) (sym (ap accessed (read_is m k a n 0 s (machine_at l) p at is h small read))))
 
-pub ruleset reading = (reads_denied, reads_refused, reads_allowed)
+pub ruleset reading = (reads_failed, reads_allowed)
 
 -- ---- a store on the words
 
 module _ (l : List ℕ) (m : Memory) (a n v : ℕ) (p : Permit) (r : Answer) (bytes : List ℕ) where
   -- what holds of a store's result holds of its two parts
-  parts : (l₁ : List ℕ) (s : SystemState) (x : Result) → checked_in s (machine_at l) m a n v Write ≡ x → accessed_as r (machine_at l₁) ≡ x.accessed → bytes ≡ x.memory.bytes
+  parts : (l₁ : List ℕ) (s : SystemState) (x : Effect) → checked_in s (machine_at l) m a n v Write ≡ x → accessed_as r (machine_at l₁) ≡ x.accessed → bytes ≡ x.memory.bytes
       → (accessed_as r (machine_at l₁) ≡ (checked_in s (machine_at l) m a n v Write).accessed) × (bytes ≡ (checked_in s (machine_at l) m a n v Write).memory.bytes)
-  parts l₁ s x e q b = (q ∙ sym (ap accessed e), b ∙ sym (ap (λ (y : Result). y.memory.bytes) e))
+  parts l₁ s x e q b = (q ∙ sym (ap accessed e), b ∙ sym (ap (λ (y : Effect). y.memory.bytes) e))
 
-  pub writes_denied : (e : Exception) → p.permission ≡ Denied e → r ≡ answer_of (outcome.Exception e) 0 p.reads → bytes ≡ m.bytes → WritesPermitted l l m a n v p r bytes
-  writes_denied e h j b = (refl, λ s at is. parts l s _ (denied_is m Write a n v s (machine_at l) p at is e h) (rw j) b)
+  pub writes_failed : (e : AccessError) (x : Fault) → p.permission ≡ Err e → x ≡ fault_of e → r ≡ answer_of (Err x) 0 p.reads → bytes ≡ m.bytes → WritesPermitted l l m a n v p r bytes
+  writes_failed e x h g j b = (refl, λ s at is. parts l s _ (failed_is m Write a n v s (machine_at l) p at is e h) (rw (j, g)) b)
 
-  pub writes_refused : (e : Refusal) → p.permission ≡ Refused e → r ≡ answer_of (outcome.Refused e) 0 0 → bytes ≡ m.bytes → WritesPermitted l l m a n v p r bytes
-  writes_refused e h j b = (refl, λ s at is. parts l s _ (refused_is m Write a n v s (machine_at l) p at is e h) (rw j) b)
-
-  pub writes_allowed : (l₁ : List ℕ) (stall : ℕ) (d : DataWritten) (o : Outcome) → a < 2 ^ 32 → p.permission ≡ Allowed → Asks l l₁ Write p.pa stall
+  pub writes_allowed : (l₁ : List ℕ) (stall : ℕ) (d : Result (Unit {0}) DataError) (o : Result ℕ Fault) → a < 2 ^ 32 → p.permission ≡ Ok tt → Asks l l₁ Write p.pa stall
       → (d ≡ store_at m n (rows_of a n p.pa p.pb)) × (bytes ≡ (memory_at m n (rows_of a n p.pa p.pb) v).bytes) → o ≡ write_outcome d → r ≡ answer_of o stall p.reads
       → WritesPermitted l l₁ m a n v p r bytes
   writes_allowed l₁ stall d o small h w e q j =
       (w.0.0, λ s at is. parts l₁ s _ (written_is m a n v s (machine_at l) p at is h small) (rw (j, q, e.0, w.0.1, w.1)) e.1)
 
-pub ruleset writing = (writes_denied, writes_refused, writes_allowed)
+pub ruleset writing = (writes_failed, writes_allowed)
 
 -- ---- a word that is granted
 
-pub word_value : (x : Content) (v : ℕ) → x ≡ content.Value v → outcome.Value v ≡ read_outcome (read_of x)
+word_outcome : (x : Option ℕ) → ok_or x outcome.BusError ≡ read_outcome (read_of x)
 unfolding read_outcome
-word_value x v h = rw h
+word_outcome (Some v) = refl
+word_outcome None = refl
 
-pub word_outside : (x : Content) → x ≡ content.Outside → outcome.BusError ≡ read_outcome (read_of x)
-unfolding read_outcome
-word_outside x h = rw h
-
-pub word_done : (all : Bool) → all ≡ true → outcome.Value 0 ≡ write_outcome (cond all written.Done written.BusError)
+stored_outcome : (all : Bool) → ok_or (then_some all 0) outcome.BusError ≡ write_outcome (cond all (Ok tt) (Err missing.BusError))
 unfolding write_outcome
-word_done all h = rw h
-
-pub word_lost : (all : Bool) → all ≡ false → outcome.BusError ≡ write_outcome (cond all written.Done written.BusError)
-unfolding write_outcome
-word_lost all h = rw h
-
-pub ruleset word_outcomes = (word_value, word_outside, word_done, word_lost)
+stored_outcome true = refl
+stored_outcome false = refl
 
 pub map_is : (base : ℕ) (bytes : List ℕ) (good : Bool) → good ≡ good_map base (length bytes) → good ≡ true → map_good (lent base bytes) ≡ true
 map_is base bytes good is h = sym is ∙ h
 
 module _ (l : List ℕ) (m : Memory) (g : Grant) (r : Answer) (good : map_good m ≡ true) where
-  pub granted_reads : (k : Access) (l₁ : List ℕ) (stall : ℕ) (x : Content) (o : Outcome) → is_read k ≡ true → Asks l l₁ k g.pa stall → x ≡ read_at m (word_spots g.pa)
-      → o ≡ read_outcome (read_of x) → r ≡ answer_of o stall g.reads → ReadsGranted l l₁ m k g r
+  pub granted_reads : (k : Access) (l₁ : List ℕ) (stall : ℕ) (x : Option ℕ) (o : Result ℕ Fault) → is_read k ≡ true → Asks l l₁ k g.pa stall → x ≡ read_at m (word_spots g.pa)
+      → o ≡ ok_or x outcome.BusError → r ≡ answer_of o stall g.reads → ReadsGranted l l₁ m k g r
   granted_reads k l₁ stall x o read w is e j a at =
-      reads_allowed l m a 4 k (permit_for g) r l₁ stall (read_of x) o read at.0 refl w (rw (is, word_loaded m a g.pa 0 good at.1)) e j
+      reads_allowed l m a 4 k (permit_for g) r l₁ stall (read_of x) o read at.0 refl w (rw (is, word_loaded m a g.pa 0 good at.1)) (e ∙ word_outcome x) j
 
-  pub granted_writes : (v : ℕ) (bytes : List ℕ) (l₁ : List ℕ) (stall : ℕ) (all : Bool) (o : Outcome) → Asks l l₁ Write g.pa stall
+  pub granted_writes : (v : ℕ) (bytes : List ℕ) (l₁ : List ℕ) (stall : ℕ) (all : Bool) (q : Option ℕ) (o : Result ℕ Fault) → Asks l l₁ Write g.pa stall
       → (all ≡ all_writable m (word_spots g.pa)) × (bytes ≡ (put_at m (word_spots g.pa) (bytes_of 4 v)).bytes)
-      → o ≡ write_outcome (cond all written.Done written.BusError) → r ≡ answer_of o stall g.reads → WritesGranted l l₁ m v g r bytes
-  granted_writes v bytes l₁ stall all o w is e j a at =
-      writes_allowed l m a 4 v (permit_for g) r bytes l₁ stall (cond all written.Done written.BusError) o at.0 refl w
-      (rw (is.0, word_stored m a g.pa 0 good at.1), is.1 ∙ rw (word_left m a g.pa 0 good at.1 v)) e j
+      → q ≡ then_some all 0 → o ≡ ok_or q outcome.BusError → r ≡ answer_of o stall g.reads → WritesGranted l l₁ m v g r bytes
+  granted_writes v bytes l₁ stall all q o w is t e j a at =
+      writes_allowed l m a 4 v (permit_for g) r bytes l₁ stall (cond all (Ok tt) (Err missing.BusError)) o at.0 refl w
+      (rw (is.0, word_stored m a g.pa 0 good at.1), is.1 ∙ rw (word_left m a g.pa 0 good at.1 v)) (rw t at e ∙ stored_outcome all) j
 
-module _ (l : List ℕ) (m : Memory) (a n : ℕ) (k : Access) (g : Grant) where
-  pub grants_word : (new : List ℕ) → a < 2 ^ 32 → length l ≡ state_words → length new ≡ length (part 0 system_words l) → n ≡ 4 → map_good m ≡ true
-      → SysGrants m (part 0 system_words l) a k g new → Grants l (put 0 system_words l new) m a n k g
+module _ (l : List ℕ) (m : Memory) (a n : ℕ) (k : Access) where
+  pub grants_word : (r : Option Grant) (new : List ℕ) → a < 2 ^ 32 → length l ≡ state_words → length new ≡ length (part 0 system_words l) → n ≡ 4 → map_good m ≡ true
+      → SysGrants m (part 0 system_words l) a k r new → Grants l (put 0 system_words l new) m a n k r
   unfolding machine_at
-  grants_word new small long same four good w =
+  grants_word r new small long same four good w =
       let size : length new ≡ system_words = same ∙ sys_long l long in (
-        (λ h.
-            let is = grant_permits m (part 0 system_words l) a k g new (sys_long l long) w good h in
+        (λ g h.
+            let is = grant_permits m (part 0 system_words l) a k r new (sys_long l long) w g good h in
             (four, good, (small, is.0), rw four (check_permits l new m a 4 k (permit_for g) long same is.1))),
-        (λ h. let is = grant_stays m (part 0 system_words l) a k g new (sys_long l long) w h in (sys_left l long new size, sys_put l long new size ∙ rw (is.0, is.1))),
+        (λ h. let is = grant_stays m (part 0 system_words l) a k r new (sys_long l long) w h in (sys_left l long new size, sys_put l long new size ∙ rw (is.0, is.1))),
       )
 
-  pub grants_none : g.granted ≡ false → Grants l l m a n k g
-  grants_none e = (λ h. absurd_eq (cc), λ h. (refl, refl))
+  pub grants_none : Grants l l m a n k None
+  grants_none = (λ g h. absurd_eq (cc), λ h. (refl, refl))
 
 -- ---- a whole access
 
@@ -297,19 +257,19 @@ module _ (k : Access) (M : Machine) (m : Memory) (a n v : ℕ) where
   abbrev checked : AccessChecked
   checked = check_access m M.sys a n k
 
-  abbrev left : Result
+  abbrev left : Effect
   left = checked_in M.sys (with_sys M checked.sys) m a n v k
 
-  checked_allowed : checked.permission ≡ Allowed → left ≡ moved k (with_sys M checked.sys) m (looked_up checked a n) n v checked.reads
+  checked_allowed : checked.permission ≡ Ok tt → left ≡ moved k (with_sys M checked.sys) m (looked_up checked a n) n v checked.reads
   unfolding permitted
   checked_allowed h = rw h
 
-  checked_denied : (e : Exception) → checked.permission ≡ Denied e
-      → left ≡ record { accessed = access_answer (with_sys M checked.sys) (outcome.Exception e) 0 checked.reads; memory = m }
+  checked_denied : (e : Exception) → checked.permission ≡ Err (Denied e)
+      → left ≡ record { accessed = access_answer (with_sys M checked.sys) (Err (outcome.Exception e)) 0 checked.reads; memory = m }
   unfolding permitted
   checked_denied e h = rw h
 
-  checked_refused : (r : Refusal) → checked.permission ≡ Refused r → left ≡ record { accessed = access_answer M (outcome.Refused r) 0 0; memory = m }
+  checked_refused : (r : Refusal) → checked.permission ≡ Err (Refused r) → left ≡ record { accessed = access_answer M (Err (outcome.Refused r)) 0 0; memory = m }
   unfolding permitted
   checked_refused r h =
       let back : checked.sys ≡ M.sys = ap (λ (c : AccessChecked). c.sys) (refused_nothing m M.sys a n k r h) in
@@ -319,15 +279,15 @@ module _ (k : Access) (M : Machine) (m : Memory) (a n v : ℕ) where
 access_checked : (k : Access) (M : Machine) (m : Memory) (a n v : ℕ) → access_of k M m a n v ≡ checked_in M.sys (with_sys M (check_access m M.sys a n k).sys) m a n v k
 access_checked k M m a n v = by (check_access m M.sys a n k).permission refl
   where
-    by : (o : Permission) → (check_access m M.sys a n k).permission ≡ o
+    by : (o : Result (Unit {0}) AccessError) → (check_access m M.sys a n k).permission ≡ o
         → access_of k M m a n v ≡ checked_in M.sys (with_sys M (check_access m M.sys a n k).sys) m a n v k
-    by Allowed h =
+    by (Ok tt) h =
         access_allowed k M m a n v (check_access m M.sys a n k) refl h
         ∙ sym (checked_allowed k M m a n v h)
-    by (Denied e) h =
+    by (Err (Denied e)) h =
         access_denied k M m a n v (check_access m M.sys a n k) refl e h
         ∙ sym (checked_denied k M m a n v e h)
-    by (Refused r) h =
+    by (Err (Refused r)) h =
         access_refused k M m a n v (check_access m M.sys a n k) refl r h
         ∙ sym (checked_refused k M m a n v r h)
 
@@ -353,13 +313,9 @@ pub access_write_whole : (l l₁ l₂ : List ℕ) (m : Memory) (a n v : ℕ) (p 
 access_write_whole l l₁ l₂ m a n v p r bytes w q =
     let is = q.1 (machine_at l).sys (state_is l l₁ l₂ m Write a n v p r w) w.1 in
     let e = comes_to l l₁ l₂ m Write a n v p r w in
-    (is.0 ∙ ap accessed (sym e), is.1 ∙ ap (λ (x : Result). x.memory.bytes) (sym e))
+    (is.0 ∙ ap accessed (sym e), is.1 ∙ ap (λ (x : Effect). x.memory.bytes) (sym e))
 
 -- ---- over any words
-
-module _ (l : List ℕ) (base : ℕ) (bytes : List ℕ) (k : Access) (a n v : ℕ) (r : Answer) where
-  pub any_none : (length l ≡ state_words → ⊥) → r ≡ no_answer → AccessesAny l l k base bytes a n v r bytes
-  any_none h e = (λ p. absurd (h p), λ q. (refl, rw e))
 
 module _ (l l₁ l₂ : List ℕ) (base : ℕ) (bytes : List ℕ) (k : Access) (a n : ℕ) (p : Permit) (r : Answer) (long : length l ≡ state_words) (w : Permits l l₁ (lent base bytes) a n k p) where
   pub any_read : is_read k ≡ true → ReadsPermitted l₁ l₂ (lent base bytes) a n k p r → AccessesAny l l₂ k base bytes a n 0 r bytes
@@ -369,8 +325,6 @@ pub any_written : (l l₁ l₂ : List ℕ) (base : ℕ) (bytes : List ℕ) (a n 
     → Permits l l₁ (lent base bytes) a n Write p → WritesPermitted l₁ l₂ (lent base bytes) a n v p r bytes' → AccessesAny l l₂ Write base bytes a n v r bytes'
 any_written l l₁ l₂ base bytes a n v p r bytes' long w q =
     (λ h. (q.0 ∙ w.0.0 ∙ long, access_write_whole l l₁ l₂ (lent base bytes) a n v p r bytes' w q), λ h. absurd (h long))
-
-pub ruleset anywhere = (any_none, any_read, any_written)
 
 -- ---- the access of an event
 
@@ -391,16 +345,16 @@ module _ (l l₁ l₂ : List ℕ) (base : ℕ) (bytes : List ℕ) (e : Event) (k
       let store : k ≡ Write = is ∙ rw h in
       (q.0 ∙ w.0.0, rw h (access_write_whole l l₁ l₂ (lent base bytes) e.a e.size e.b p r bytes' (rw store at w) q))
 
-module _ (l l₁ : List ℕ) (base : ℕ) (bytes : List ℕ) (e : Event) (k : Access) (g : Grant) (w : Grants l l₁ (lent base bytes) e.a e.size k g) where
-  pub word_good : g.granted ≡ true → map_good (lent base bytes) ≡ true
-  word_good h = (w.0 h).1
+module _ (l l₁ : List ℕ) (base : ℕ) (bytes : List ℕ) (e : Event) (k : Access) (o : Option Grant) (w : Grants l l₁ (lent base bytes) e.a e.size k o) where
+  pub word_good : (g : Grant) → o ≡ Some g → map_good (lent base bytes) ≡ true
+  word_good g h = (w.0 g h).1
 
   module _ (l₂ : List ℕ) (r : Answer) (is : k ≡ access_kind e.kind) where
-    pub event_read_word : g.granted ≡ true → (e.kind ≡ 1 → ⊥) → ReadsGranted l₁ l₂ (lent base bytes) k g r → Event' l l₂ base bytes e r bytes
-    event_read_word h kind q = event_read l l₁ l₂ base bytes e k (permit_for g) r is (w.0 h).3 kind (rw (w.0 h).0 (q e.a (w.0 h).2))
+    pub event_read_word : (g : Grant) → o ≡ Some g → (e.kind ≡ 1 → ⊥) → ReadsGranted l₁ l₂ (lent base bytes) k g r → Event' l l₂ base bytes e r bytes
+    event_read_word g h kind q = let of = w.0 g h in event_read l l₁ l₂ base bytes e k (permit_for g) r is of.3 kind (rw of.0 (q e.a of.2))
 
-    pub event_written_word : g.granted ≡ true → (bytes' : List ℕ) → e.kind ≡ 1 → WritesGranted l₁ l₂ (lent base bytes) e.b g r bytes' → Event' l l₂ base bytes e r bytes'
-    event_written_word h bytes' kind q = event_written l l₁ l₂ base bytes e k (permit_for g) r is (w.0 h).3 bytes' kind (rw (w.0 h).0 (q e.a (w.0 h).2))
+    pub event_written_word : (g : Grant) → o ≡ Some g → (bytes' : List ℕ) → e.kind ≡ 1 → WritesGranted l₁ l₂ (lent base bytes) e.b g r bytes' → Event' l l₂ base bytes e r bytes'
+    event_written_word g h bytes' kind q = let of = w.0 g h in event_written l l₁ l₂ base bytes e k (permit_for g) r is of.3 bytes' kind (rw of.0 (q e.a of.2))
 
-  pub event_other : (l₂ : List ℕ) (r : Answer) → g.granted ≡ false → (bytes' : List ℕ) → Event' l₁ l₂ base bytes e r bytes' → Event' l l₂ base bytes e r bytes'
+  pub event_other : (l₂ : List ℕ) (r : Answer) → o ≡ None → (bytes' : List ℕ) → Event' l₁ l₂ base bytes e r bytes' → Event' l l₂ base bytes e r bytes'
   event_other l₂ r h bytes' q = let still = w.1 h in (q.0 ∙ still.0, rw still.1 at q.1)

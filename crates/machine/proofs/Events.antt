@@ -1,74 +1,31 @@
 -- What each event shows where the machine's words stand. Assumes nothing.
-use Rattle.std.proofs.Common.{◌≡◌, ℕ, ◌+◌, ◌%◌, ◌<◌, ◌≤◌, true, false, not, eqb, List, length, set, sym, refl, ap, ◌∙◌, le-ltb, lt-ltb, ne_eqb}
+use Rattle.std.proofs.Common.{◌≡◌, ℕ, ◌%◌, ◌<◌, ◌≤◌, not, eqb, List, length, set, sym, refl, ap, ◌∙◌, le-ltb, lt-ltb, ne_eqb, Result, Ok, Err}
 use Rattle.cache.specs.Cache.{external_written, reg_read, reg_written, reset_of as cacheReset}
 use Rattle.cache.specs.Flat.{cache_words, cache_at, Changes}
 use Rattle.cache.specs.declared.L1Cache.{L1Cache}
-use Rattle.common.specs.Refusal.{refusal_number}
 use Rattle.common.specs.declared.Refusal.{Refusal}
 use Rattle.common.specs.declared.Refusal.TheVariants as refusal
 use Rattle.irqc.specs.Irqc.{new_controller, source_set, pending_cleared, mask_set, output_of}
 use Rattle.irqc.specs.declared.IrqController.{IrqController}
 use Rattle.irqc.specs.declared.IrqOutput.{IrqOutput}
 use Rattle.layout.specs.Words.{part, put, Reads}
-use Rattle.listing.specs.Listing.{line}
 use Rattle.listing.specs.declared.Line.{Line}
 use Rattle.memory.specs.Memory.{lent}
-use Rattle.mmu.specs.Exception.{cause_of}
-use Rattle.mmu.specs.declared.exception.Exception.{Exception}
 use Rattle.privilege.specs.Flat.{system_words, sys_at, reg_at, Traps, Returns, ReadsSr, WritesSr, Comes}
 use Rattle.privilege.specs.Registers.Laws.{write_refused}
 use Rattle.privilege.specs.State.{new_state, mode_of}
 use Rattle.privilege.specs.declared.flat.traps.Resumed.{Resumed}
-use Rattle.privilege.specs.declared.registers.SrRead.{SrRead}
-use Rattle.privilege.specs.declared.registers.SrRead.TheVariants as srread
-use Rattle.privilege.specs.declared.registers.SrAnswer.{SrAnswer}
-use Rattle.privilege.specs.declared.registers.SrAnswer.TheVariants as sranswer
 use Rattle.privilege.specs.declared.registers.SrWritten.{SrWritten}
 use Rattle.privilege.specs.declared.state.InstructionMode.{InstructionMode}
 use Rattle.privilege.specs.declared.trap.Returned.{Returned}
 use Rattle.privilege.specs.declared.trap.Trapped.{Trapped}
 use Rattle.script.specs.declared.Event.{Event}
 use Rattle.machine.specs.Event.{line_of, showing, refusing, shows, shown, access_kind, stored_by, access_event, trap_event, return_event, read_event, write_event, register_event, state_event, step_of}
-use Rattle.machine.specs.Flat.{cache_from, state_words, machine_at, Left, Shows, Accesses, Steps, StepsAny, no_line}
+use Rattle.machine.specs.Flat.{cache_from, state_words, machine_at, Left, Shows, Accesses, Steps}
 use Rattle.machine.specs.State.{with_reg, with_cache, with_irqc, reset_of}
-use Rattle.machine.specs.declared.access.Outcome.{Outcome}
-use Rattle.machine.specs.declared.access.Outcome.TheVariants.{Value, Exception as Raised, BusError, Refused}
 use Rattle.machine.specs.declared.flat.access.Answer.{Answer}
 use Rattle.machine.specs.declared.state.Machine.{Machine}
 use Rattle.machine.proofs.Words.{sys_long, cache_long, sys_left, sys_put, cache_left, cache_put}
-
--- ---- lines
-
-module _ (o : Outcome) (stall reads : ℕ) (x : Line) where
-  pub line_value : (v : ℕ) → o ≡ Value v → x ≡ line 86 v stall reads → x ≡ line_of o stall reads
-  unfolding line_of
-  line_value v h q = q ∙ rw h
-
-  pub line_exception : (e : Exception) (n : ℕ) → o ≡ Raised e → n ≡ cause_of e → x ≡ line 88 n stall reads → x ≡ line_of o stall reads
-  unfolding line_of
-  line_exception e n h g q = q ∙ rw (h, g)
-
-  pub line_bus : o ≡ BusError → x ≡ line 66 0 stall reads → x ≡ line_of o stall reads
-  unfolding line_of
-  line_bus h q = q ∙ rw h
-
-  pub line_refused : (r : Refusal) (n : ℕ) → o ≡ Refused r → n ≡ refusal_number r → x ≡ line 78 n stall reads → x ≡ line_of o stall reads
-  unfolding line_of
-  line_refused r n h g q = q ∙ rw (h, g)
-
-pub refusing_is : (r : Refusal) (n : ℕ) (x : Line) → n ≡ refusal_number r → x ≡ line 78 n 0 0 → x ≡ refusing r
-refusing_is r n x h q = q ∙ rw h
-
-pub ruleset lines = (line_value, line_exception, line_bus, line_refused)
-
-module _ (o : IrqOutput) where
-  pub shown_valid : o.valid ≡ true → 256 + o.number ≡ shown o
-  unfolding shown
-  shown_valid h = rw h
-
-  pub shown_none : o.valid ≡ false → 0 ≡ shown o
-  unfolding shown
-  shown_none h = rw h
 
 -- ---- events of the privilege state
 
@@ -91,7 +48,7 @@ module _ (l new : List ℕ) (long : length l ≡ state_words) (same : length new
       let is = (w.0 (sys_long l long)).1 in
       sys_shows _ (ap (λ (t : Returned). with_reg (machine_at l) t.sys t.reg) is) _ (q ∙ ap (λ (t : Returned). showing t.epc) is)
 
-  pub write_shows : (e : Event) (r : SrAnswer) → WritesSr (part 0 system_words l) new e.aux e.a r → r ≡ sranswer.Done → x ≡ showing 0
+  pub write_shows : (e : Event) (r : Result (Unit {0}) Refusal) → WritesSr (part 0 system_words l) new e.aux e.a r → r ≡ Ok tt → x ≡ showing 0
       → Shows l (put 0 system_words l new) x (write_event (machine_at l) e)
   unfolding write_event machine_at
   write_shows e r w d q =
@@ -100,7 +57,7 @@ module _ (l new : List ℕ) (long : length l ≡ state_words) (same : length new
       rw done (sys_shows _ (ap (λ (t : SrWritten). with_reg (machine_at l) t.sys t.reg) is) 0 q)
 
   -- a refused write has left the state, and R0 to R31
-  pub write_refuses : (e : Event) (r : SrAnswer) (f : Refusal) → WritesSr (part 0 system_words l) new e.aux e.a r → r ≡ sranswer.Refused f → x ≡ refusing f
+  pub write_refuses : (e : Event) (r : Result (Unit {0}) Refusal) (f : Refusal) → WritesSr (part 0 system_words l) new e.aux e.a r → r ≡ Err f → x ≡ refusing f
       → Shows l (put 0 system_words l new) x (write_event (machine_at l) e)
   unfolding write_event machine_at
   write_refuses e r f w d q =
@@ -120,11 +77,11 @@ module _ (l new : List ℕ) (long : length l ≡ state_words) (same : length new
 -- ---- events that only read
 
 module _ (l : List ℕ) (long : length l ≡ state_words) (e : Event) (x : Line) where
-  pub read_shows : (a : SrRead) (v : ℕ) → ReadsSr (part 0 system_words l) e.aux a → a ≡ srread.Value v → x ≡ showing v → Shows l l x (read_event (machine_at l) e)
+  pub read_shows : (a : Result ℕ Refusal) (v : ℕ) → ReadsSr (part 0 system_words l) e.aux a → a ≡ Ok v → x ≡ showing v → Shows l l x (read_event (machine_at l) e)
   unfolding read_event machine_at
   read_shows a v w h q = (refl, rw (q, ← w.0 (sys_long l long), h))
 
-  pub read_refuses : (a : SrRead) (f : Refusal) → ReadsSr (part 0 system_words l) e.aux a → a ≡ srread.Refused f → x ≡ refusing f → Shows l l x (read_event (machine_at l) e)
+  pub read_refuses : (a : Result ℕ Refusal) (f : Refusal) → ReadsSr (part 0 system_words l) e.aux a → a ≡ Err f → x ≡ refusing f → Shows l l x (read_event (machine_at l) e)
   unfolding read_event machine_at
   read_refuses a f w h q = (refl, rw (q, ← w.0 (sys_long l long), h))
 
@@ -285,19 +242,11 @@ module _ (l l' : List ℕ) (base : ℕ) (bytes : List ℕ) (e : Event) (x : Line
   unfolding step_of
   step_state k w = (w.1 ∙ rw (le-ltb e.kind 3 k), rw (le-ltb e.kind 3 k))
 
--- ---- over any words
+module _ (l l' : List ℕ) (base : ℕ) (bytes : List ℕ) (e : Event) (x : Line) where
+  pub words_accessed : (r : Answer) (bytes' : List ℕ) → e.kind < 3
+      → (length l' ≡ length l) × Accesses l l' (access_kind e.kind) (lent base bytes) e.a e.size (stored_by e) r bytes'
+      → x ≡ line_of r.outcome r.stall r.reads → (length l' ≡ length l) × Steps l l' base bytes e x bytes'
+  words_accessed r bytes' k w q = (w.0, step_access l l' base bytes e x r bytes' k w.1 q)
 
-module _ (l : List ℕ) (base : ℕ) (bytes : List ℕ) (e : Event) (x : Line) where
-  pub step_none : (length l ≡ state_words → ⊥) → x ≡ no_line → StepsAny l l base bytes e x bytes
-  step_none h q = (λ p. absurd (h p), λ p. (refl, rw q))
-
-  module _ (l' : List ℕ) (long : length l ≡ state_words) where
-    pub step_accessed : (r : Answer) (bytes' : List ℕ) → e.kind < 3
-        → (length l' ≡ length l) × Accesses l l' (access_kind e.kind) (lent base bytes) e.a e.size (stored_by e) r bytes'
-        → x ≡ line_of r.outcome r.stall r.reads → StepsAny l l' base bytes e x bytes'
-    step_accessed r bytes' k w q = (λ h. (w.0 ∙ long, step_access l l' base bytes e x r bytes' k w.1 q), λ h. absurd (h long))
-
-    pub step_shown : 3 ≤ e.kind → Shows l l' x (state_event (machine_at l) e) → StepsAny l l' base bytes e x bytes
-    step_shown k w = (λ h. (w.0 ∙ long, step_state l l' base bytes e x k w), λ h. absurd (h long))
-
-pub ruleset steps = (step_none, step_accessed, step_shown)
+  pub words_shown : 3 ≤ e.kind → Shows l l' x (state_event (machine_at l) e) → (length l' ≡ length l) × Steps l l' base bytes e x bytes
+  words_shown k w = (w.0, step_state l l' base bytes e x k w)

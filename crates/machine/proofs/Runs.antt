@@ -1,5 +1,5 @@
 -- A run's loop: what is left of the run, after each event. Assumes nothing.
-use Rattle.std.proofs.Common.{◌≡◌, ℕ, ◌+◌, ◌-◌, ◌*◌, ◌^◌, ◌<◌, ◌≤◌, min, List, [], ◌++◌, length, take, sym, refl, ap, ◌∙◌, arith, length-take, w32, Fits}
+use Rattle.std.proofs.Common.{◌≡◌, ℕ, ◌+◌, ◌-◌, ◌*◌, ◌^◌, ◌<◌, ◌≤◌, min, List, [], ◌++◌, length, take, sym, refl, ap, ◌∙◌, arith, length-take, w32, Fits, Result, Ok, Err}
 use Rattle.common.specs.Refusal.{refusal_number}
 use Rattle.common.specs.declared.Refusal.{Refusal}
 use Rattle.listing.specs.Listing.{line_text, lines_from, end_text, refused_text}
@@ -11,8 +11,6 @@ use Rattle.script.specs.Header.{script_of}
 use Rattle.script.specs.Image.{bytes_from}
 use Rattle.script.specs.declared.Event.{Event}
 use Rattle.script.specs.declared.header.Header.{Header}
-use Rattle.script.specs.declared.header.Script.{Script}
-use Rattle.script.specs.declared.header.Script.TheVariants.{Good, Refused}
 use Rattle.text.specs.Text.{written}
 use Rattle.machine.specs.Event.{step_of}
 use Rattle.machine.specs.Event.Laws.{step_lent}
@@ -186,11 +184,11 @@ module _ (s : List ℕ) (h : Header) (out : List ℕ) (z : List ℕ × ℕ) wher
   unfolding script_run
   good_run M l mem g f e q = q ∙ rw (g, f, e)
 
-  pub good_listed : (x : Script) → x ≡ script_of s → x ≡ Good h → z ≡ written (out, 0) (lines_from 0 (script_run s h).lines ++ end_text h.events) → z ≡ written (out, 0) (listing_of s)
+  pub good_listed : (x : Result Header Refusal) → x ≡ script_of s → x ≡ Ok h → z ≡ written (out, 0) (lines_from 0 (script_run s h).lines ++ end_text h.events) → z ≡ written (out, 0) (listing_of s)
   unfolding listing_of listed
   good_listed x e g q = q ∙ ap (written (out, 0)) (rw (← e, g, listing_is (script_run s h).lines, lines_are s h))
 
-pub refused_listed : (s out : List ℕ) (z : List ℕ × ℕ) (x : Script) (r : Refusal) (n : ℕ) → x ≡ script_of s → x ≡ Refused r → n ≡ refusal_number r → z ≡ written (out, 0) (refused_text n) → z ≡ written (out, 0) (listing_of s)
+pub refused_listed : (s out : List ℕ) (z : List ℕ × ℕ) (x : Result Header Refusal) (r : Refusal) (n : ℕ) → x ≡ script_of s → x ≡ Err r → n ≡ refusal_number r → z ≡ written (out, 0) (refused_text n) → z ≡ written (out, 0) (listing_of s)
 unfolding listing_of listed
 refused_listed s out z x r n f g e q = q ∙ ap (written (out, 0)) (rw (← f, g, e))
 

@@ -1,5 +1,5 @@
 -- Document 01's sentences follow from the definitions. Assumes nothing.
-use Rattle.std.proofs.Common.{◌≡◌, ℕ, ◌<◌, ◌≤◌, true, false, cond, eqb, ltb, List, ◌∷◌, refl, ◌∙◌, inl, inr, ⊎_elim, arith, ltb-false, ltb-true, le-ltb, ne_eqb, eqb-true}
+use Rattle.std.proofs.Common.{◌≡◌, ℕ, ◌<◌, ◌≤◌, true, false, cond, eqb, ltb, List, ◌∷◌, refl, ◌∙◌, inl, inr, ⊎_elim, arith, ltb-false, ltb-true, le-ltb, ne_eqb, eqb-true, Result, Ok, Err}
 use borrow.Author.Tests.{eqb-false}
 use Rattle.common.specs.Cases.{cond_case}
 use Rattle.common.specs.Refusal.{refusal_number}
@@ -10,10 +10,8 @@ use Rattle.mmu.specs.declared.exception.Access.{Access}
 use Rattle.privilege.specs.Access.{check_access}
 use Rattle.privilege.specs.Registers.{sr_read, sr_written}
 use Rattle.privilege.specs.Registers.Laws.{read_number, write_number}
-use Rattle.privilege.specs.declared.registers.SrRead.{SrRead}
-use Rattle.privilege.specs.declared.registers.SrRead.TheVariants as srread
-use Rattle.privilege.specs.declared.registers.SrAnswer.{SrAnswer}
-use Rattle.privilege.specs.declared.registers.SrAnswer.TheVariants as sranswer
+use Rattle.machine.specs.declared.access.Fault.TheVariants as outcome
+use Rattle.machine.specs.declared.access.Fault.{Fault}
 use Rattle.privilege.specs.declared.registers.SrWritten.{SrWritten}
 use Rattle.script.specs.declared.Event.{Event}
 use Rattle.machine.specs.Access.{is_read, access_of}
@@ -22,8 +20,6 @@ use Rattle.machine.specs.Event.{Step, line_of, access_kind, stored_by, access_ev
 use Rattle.machine.specs.Meaning.{BadEvent, Meaning}
 use Rattle.machine.specs.Run.{after, run_over}
 use Rattle.machine.specs.Run.Laws.{over_none, over_next}
-use Rattle.machine.specs.declared.access.Outcome.{Outcome}
-use Rattle.machine.specs.declared.access.Outcome.TheVariants as outcome
 use Rattle.machine.specs.declared.event.Stepped.{Stepped}
 use Rattle.machine.specs.declared.state.Machine.{Machine}
 
@@ -80,13 +76,13 @@ module _ (M : Machine) (m : Memory) (e : Event) where
   bad_due : (s : Stepped) → BadEvent e → Due s
   bad_due s bad = record { due = λ h g. bad }
 
-  outcome_due : (N : Machine) (o : Outcome) (stall reads : ℕ) → ((r : Refusal) → o ≡ outcome.Refused r → refusal_number r < 3)
+  outcome_due : (N : Machine) (o : Result ℕ Fault) (stall reads : ℕ) → ((r : Refusal) → o ≡ Err (outcome.Refused r) → refusal_number r < 3)
       → Due (record { machine = N; line = line_of o stall reads })
   unfolding line_of
-  outcome_due N (outcome.Value v) stall reads few = record { due = λ h g. absurd (omega arith) }
-  outcome_due N (outcome.Exception x) stall reads few = record { due = λ h g. absurd (omega arith) }
-  outcome_due N outcome.BusError stall reads few = record { due = λ h g. absurd (omega arith) }
-  outcome_due N (outcome.Refused r) stall reads few = let small = few r refl in record { due = λ h g. absurd (omega arith) }
+  outcome_due N (Ok v) stall reads few = record { due = λ h g. absurd (omega arith) }
+  outcome_due N (Err (outcome.Exception x)) stall reads few = record { due = λ h g. absurd (omega arith) }
+  outcome_due N (Err outcome.BusError) stall reads few = record { due = λ h g. absurd (omega arith) }
+  outcome_due N (Err (outcome.Refused r)) stall reads few = let small = few r refl in record { due = λ h g. absurd (omega arith) }
 
   access_due : Due (access_event M m e).stepped
   unfolding access_event
@@ -102,17 +98,17 @@ module _ (M : Machine) (m : Memory) (e : Event) where
   unfolding return_event
   return_due = value_due _ _
 
-  by_read_lem : (x : SrRead) → sr_read M.sys e.aux M.reg ≡ x → Due (by_read M x)
-  by_read_lem (srread.Value v) h = value_due M v
-  by_read_lem (srread.Refused r) h = let three = read_number M.sys e.aux M.reg r h in other_due M r (omega arith)
+  by_read_lem : (x : Result ℕ Refusal) → sr_read M.sys e.aux M.reg ≡ x → Due (by_read M x)
+  by_read_lem (Ok v) h = value_due M v
+  by_read_lem (Err r) h = let three = read_number M.sys e.aux M.reg r h in other_due M r (omega arith)
 
   read_due : Due (read_event M e)
   unfolding read_event
   read_due = by_read_lem _ refl
 
-  by_written_lem : (w : SrWritten) (x : SrAnswer) → w ≡ sr_written M.sys e.aux e.a M.reg → w.answer ≡ x → Due (by_written M w x)
-  by_written_lem w sranswer.Done is h = value_due _ 0
-  by_written_lem w (sranswer.Refused r) is h =
+  by_written_lem : (w : SrWritten) (x : Result (Unit {0}) Refusal) → w ≡ sr_written M.sys e.aux e.a M.reg → w.answer ≡ x → Due (by_written M w x)
+  by_written_lem w (Ok tt) is h = value_due _ 0
+  by_written_lem w (Err r) is h =
       let three = write_number M.sys e.aux e.a M.reg r (rw is at h) in
       other_due M r (omega arith)
 

@@ -5,11 +5,11 @@
 --   sys_put, cache_put    == other words of the privilege state, or of the cache
 --   irqc_read, irqc_put   == the controller of its words, and other words of it
 --   packed, unpacked      == the words of a machine by value, and the machine of its words
-use Rattle.std.proofs.Common.{◌≡◌, ℕ, ◌+◌, ◌%◌, ◌^◌, ◌<◌, ◌≤◌, List, length, get_or, set, sym, refl, ◌∙◌, arith, length-set, get_or-set_other, get_or-set_same}
+use Rattle.std.proofs.Common.{◌≡◌, ℕ, ◌+◌, ◌%◌, ◌^◌, ◌<◌, ◌≤◌, List, length, get_or, set, sym, ◌∙◌, arith, length-set, get_or-set_other, get_or-set_same}
 use Rattle.cache.specs.Flat.{cache_words, cache_at, Changes}
 use Rattle.cache.specs.declared.L1Cache.{L1Cache}
 use Rattle.irqc.specs.declared.IrqController.{IrqController}
-use Rattle.layout.specs.Words.{part, put, Over, Reads, part_length, part_get, part_set_above, put_length, put_same, put_below, put_above}
+use Rattle.layout.specs.Words.{part, put, Reads, part_length, part_get, part_set_above, put_length, put_same, put_below, put_above}
 use Rattle.privilege.specs.Flat.{system_words, sys_at, reg_at, Comes}
 use Rattle.privilege.specs.declared.state.SystemState.{SystemState}
 use Rattle.machine.specs.Flat.{cache_from, irqc_from, state_words, irqc_at, machine_at, Left}
@@ -130,29 +130,21 @@ module _ (l new : List ℕ) (M : Machine) (long : length l ≡ state_words) (sam
 
   pub packed : (new₂ l₃ : List ℕ) → length new₂ ≡ length (part cache_from cache_words lₛ) → Changes (part cache_from cache_words lₛ) new₂ M.cache
       → Left (put cache_from cache_words lₛ new₂) l₃ (with_irqc (machine_at (put cache_from cache_words lₛ new₂)) M.irqc)
-      → Over {R = Unit {0}} state_words l l₃ tt tt (machine_at l₃ ≡ M)
+      → Left l l₃ M
   packed new₂ l₃ same₂ w₂ w₃ =
       let size₂ : length new₂ ≡ cache_words = same₂ ∙ cache_long lₛ longₛ in
       let is = (w.0 (sys_long l long)).1 in
       let second : machine_at (put cache_from cache_words lₛ new₂) ≡ with_cache (machine_at lₛ) M.cache =
       cache_put lₛ longₛ new₂ size₂ ∙ rw (w₂.0 (cache_long lₛ longₛ)).1 in
-      let first : machine_at lₛ ≡ with_reg (machine_at l) M.sys M.reg = sys_put l long new size_sys ∙ rw (is.0, is.1) in (
-        λ h. (w₃.0 ∙ cache_left lₛ longₛ new₂ size₂ ∙ longₛ, w₃.1 ∙ rw (second, first)),
-        λ h. absurd (h long),
-      )
+      let first : machine_at lₛ ≡ with_reg (machine_at l) M.sys M.reg = sys_put l long new size_sys ∙ rw (is.0, is.1) in
+      (w₃.0 ∙ cache_left lₛ longₛ new₂ size₂ ∙ sys_left l long new size_sys, w₃.1 ∙ rw (second, first))
 
-pub not_packed : (l : List ℕ) (M : Machine) → (length l ≡ state_words → ⊥) → Over {R = Unit {0}} state_words l l tt tt (machine_at l ≡ M)
-not_packed l M h = (λ p. absurd (h p), λ q. (refl, refl))
-
-pub unpacked : (l : List ℕ) (s none : SystemState) (c none₂ : L1Cache) (i : IrqController) (reg none₃ : List ℕ) (none₄ : Machine) → length l ≡ state_words
+pub unpacked : (l : List ℕ) (s none : SystemState) (c none₂ : L1Cache) (i : IrqController) (reg none₃ : List ℕ) → length l ≡ state_words
     → Reads system_words (part 0 system_words l) s none (sys_at (part 0 system_words l)) → Reads cache_words (part cache_from cache_words l) c none₂ (cache_at (part cache_from cache_words l))
     → i ≡ (machine_at l).irqc → Reads system_words (part 0 system_words l) reg none₃ (reg_at (part 0 system_words l))
-    → Reads state_words l (record { sys = s; cache = c; irqc = i; reg = reg }) none₄ (machine_at l)
+    → record { sys = s; cache = c; irqc = i; reg = reg } ≡ machine_at l
 unfolding machine_at
-unpacked l s none c none₂ i reg none₃ none₄ long p q r t =
-    (λ h. rw (p.0 (sys_long l long), q.0 (cache_long l long), r, t.0 (sys_long l long)), λ h. absurd (h long))
+unpacked l s none c none₂ i reg none₃ long p q r t =
+    rw (p.0 (sys_long l long), q.0 (cache_long l long), r, t.0 (sys_long l long))
 
-pub not_unpacked : (l : List ℕ) (M none : Machine) → (length l ≡ state_words → ⊥) → M ≡ none → Reads state_words l M none (machine_at l)
-not_unpacked l M none h e = (λ p. absurd (h p), λ q. e)
-
-pub ruleset words = (sys_long, cache_long, irqc_read, irqc_put, packed, not_packed, unpacked, not_unpacked)
+pub ruleset words = (sys_long, cache_long, irqc_read, irqc_put, packed, unpacked)

@@ -1,17 +1,18 @@
 -- The combined access: document 01, "Combined access (added): check; the cache once, at the first byte's physical address; memory."
 --
---   Result                      == what an access answers, and the memory that it leaves
+--   Effect                      == what an access answers, and the memory that it leaves
 --   looked_up c a n             == where an access's bytes are after its check c: each is looked up in the TLB again
 --   lines_of l                  == the addresses at which an access is presented to the cache whose bytes stand at l: the first byte's
 --   presented k c pa            == the cache asked at one address: a load or fetch may cost its stall, a store snoops and costs 0
 --   presented_each k c l        == the same at each of the addresses l, in their order; the stalls add up
+--   fault_of, data_fault        == why an access has no value: its check's exception or refusal; the data's bus error or refusal
 --   read_outcome, write_outcome == the data's answer: a value, or a bus error and no value; a store answers 0
 --   denied_with, refused_with   == a denied or refused access: "A denied check touches neither"
 --   moved k M m l n v reads     == an allowed access whose n bytes stand at l: the cache, then memory
 --   access_of k M m a n v       == the access k of n bytes at a, storing v: refusal 2, then 1
 --
 -- Where an access's bytes are is one argument, a list of physical addresses: cache and memory see nothing else of an address.
-use Rattle.std.specs.Prelude.{ℕ, ◌+◌, Bool, true, false, List, [], ◌∷◌}
+use Rattle.std.specs.Prelude.{ℕ, ◌+◌, Bool, true, false, List, [], ◌∷◌, Result, Ok, Err}
 use Rattle.cache.specs.Cache.{loaded, fetched, stored}
 use Rattle.cache.specs.declared.L1Cache.{L1Cache}
 use Rattle.cache.specs.declared.CacheAccess.{CacheAccess}
@@ -23,21 +24,19 @@ use Rattle.mmu.specs.declared.exception.Exception as exception
 use Rattle.privilege.specs.Access.{check_access}
 use Rattle.privilege.specs.Transfer.{spots, load_at, store_at, memory_at}
 use Rattle.privilege.specs.declared.check.AccessChecked.{AccessChecked}
-use Rattle.privilege.specs.declared.check.Permission.{Permission}
-use Rattle.privilege.specs.declared.check.Permission.TheVariants as permission
+use Rattle.machine.specs.declared.access.Fault.TheVariants.{Exception, BusError, Refused}
+use Rattle.machine.specs.declared.access.Fault.{Fault}
+use Rattle.privilege.specs.declared.check.AccessError.TheVariants as permission
+use Rattle.privilege.specs.declared.check.AccessError.{AccessError}
+use Rattle.privilege.specs.declared.transfer.DataError.TheVariants as missing
+use Rattle.privilege.specs.declared.transfer.DataError.{DataError}
 use Rattle.privilege.specs.declared.state.SystemState.{SystemState}
-use Rattle.privilege.specs.declared.transfer.DataRead.{DataRead}
-use Rattle.privilege.specs.declared.transfer.DataRead.TheVariants as read
-use Rattle.privilege.specs.declared.transfer.DataWritten.{DataWritten}
-use Rattle.privilege.specs.declared.transfer.DataWritten.TheVariants as written
 use Rattle.machine.specs.State.{with_sys, with_cache}
 use Rattle.machine.specs.declared.state.Machine.{Machine}
-use Rattle.machine.specs.declared.access.Outcome.{Outcome}
-use Rattle.machine.specs.declared.access.Outcome.TheVariants.{Value, Exception, BusError, Refused}
 use Rattle.machine.specs.declared.access.Accessed.{Accessed}
 pub mod Laws
 
-pub record Result : Type 0 where
+pub record Effect : Type 0 where
   pub accessed : Accessed
   pub memory : Memory
 
@@ -47,14 +46,14 @@ is_read Read = true
 is_read Fetch = true
 is_read Write = false
 
-abbrev pub access_answer : Machine → Outcome → ℕ → ℕ → Accessed
+abbrev pub access_answer : Machine → Result ℕ Fault → ℕ → ℕ → Accessed
 access_answer M outcome stall reads = record { machine = M; outcome = outcome; stall = stall; reads = reads }
 
 abbrev pub denied_with : Machine → SystemState → exception.Exception → ℕ → Accessed
-denied_with M sys e reads = access_answer (with_sys M sys) (Exception e) 0 reads
+denied_with M sys e reads = access_answer (with_sys M sys) (Err (Exception e)) 0 reads
 
 abbrev pub refused_with : Machine → Refusal → Accessed
-refused_with M r = access_answer M (Refused r) 0 0
+refused_with M r = access_answer M (Err (Refused r)) 0 0
 
 -- ---- the cache
 
@@ -81,18 +80,25 @@ asked k M l = presented_each k M.cache (lines_of l)
 
 -- ---- memory
 
-unfoldable pub read_outcome : DataRead → Outcome
-read_outcome (read.Value v) = Value v
-read_outcome read.BusError = BusError
-read_outcome (read.Refused r) = Refused r
+-- why an access has no value, by its check and by its data
+abbrev pub fault_of : AccessError → Fault
+fault_of (permission.Denied e) = Exception e
+fault_of (permission.Refused r) = Refused r
 
-unfoldable pub write_outcome : DataWritten → Outcome
-write_outcome written.Done = Value 0
-write_outcome written.BusError = BusError
-write_outcome (written.Refused r) = Refused r
+abbrev pub data_fault : DataError → Fault
+data_fault missing.BusError = BusError
+data_fault (missing.Refused r) = Refused r
+
+unfoldable pub read_outcome : Result ℕ DataError → Result ℕ Fault
+read_outcome (Ok v) = Ok v
+read_outcome (Err e) = Err (data_fault e)
+
+unfoldable pub write_outcome : Result (Unit {0}) DataError → Result ℕ Fault
+write_outcome (Ok tt) = Ok 0
+write_outcome (Err e) = Err (data_fault e)
 
 -- what the data of an access answers
-unfoldable pub data_outcome : Access → Memory → ℕ → List ℕ → Outcome
+unfoldable pub data_outcome : Access → Memory → ℕ → List ℕ → Result ℕ Fault
 data_outcome Read m n l = read_outcome (load_at m n l)
 data_outcome Fetch m n l = read_outcome (load_at m n l)
 data_outcome Write m n l = write_outcome (store_at m n l)
@@ -106,7 +112,7 @@ data_memory Write m n l v = memory_at m n l v
 -- ---- the access
 
 -- an allowed access: the cache, then memory
-abbrev pub moved : Access → Machine → Memory → List ℕ → ℕ → ℕ → ℕ → Result
+abbrev pub moved : Access → Machine → Memory → List ℕ → ℕ → ℕ → ℕ → Effect
 moved k M m l n v reads =
     record {
       accessed = access_answer (with_cache M (asked k M l).cache) (data_outcome k m n l) (asked k M l).stall reads;
@@ -114,17 +120,17 @@ moved k M m l n v reads =
     }
 
 -- by what the check permits, and where the bytes are if it does
-unfoldable pub permitted : Access → Machine → Memory → List ℕ → ℕ → ℕ → AccessChecked → Permission → Result
-permitted k M m l n v c permission.Allowed = moved k (with_sys M c.sys) m l n v c.reads
-permitted k M m l n v c (permission.Denied e) = record { accessed = denied_with M c.sys e c.reads; memory = m }
-permitted k M m l n v c (permission.Refused r) = record { accessed = refused_with M r; memory = m }
+unfoldable pub permitted : Access → Machine → Memory → List ℕ → ℕ → ℕ → AccessChecked → Result (Unit {0}) AccessError → Effect
+permitted k M m l n v c (Ok tt) = moved k (with_sys M c.sys) m l n v c.reads
+permitted k M m l n v c (Err (permission.Denied e)) = record { accessed = denied_with M c.sys e c.reads; memory = m }
+permitted k M m l n v c (Err (permission.Refused r)) = record { accessed = refused_with M r; memory = m }
 
 -- "finds each byte by looking up the TLB again"
 abbrev pub looked_up : AccessChecked → ℕ → ℕ → List ℕ
 looked_up c a n = spots c.sys a n
 
-abbrev pub after_check : Access → Machine → Memory → ℕ → ℕ → ℕ → AccessChecked → Result
+abbrev pub after_check : Access → Machine → Memory → ℕ → ℕ → ℕ → AccessChecked → Effect
 after_check k M m a n v c = permitted k M m (looked_up c a n) n v c c.permission
 
-unfoldable pub access_of : Access → Machine → Memory → ℕ → ℕ → ℕ → Result
+unfoldable pub access_of : Access → Machine → Memory → ℕ → ℕ → ℕ → Effect
 access_of k M m a n v = after_check k M m a n v (check_access m M.sys a n k)

@@ -10,7 +10,7 @@
 --   step_of M m e          == any event
 --
 -- "Unnamed fields are ignored." A size is the event's byte, any number. A source's number has all 16 bits of aux.
-use Rattle.std.specs.Prelude.{ℕ, ◌+◌, ◌%◌, cond, not, ◌==◌, nat_lt, slice_set}
+use Rattle.std.specs.Prelude.{ℕ, ◌+◌, ◌%◌, cond, not, ◌==◌, nat_lt, slice_set, Result, Ok, Err}
 use Rattle.cache.specs.Cache.{external_written, reg_read, reg_written}
 use Rattle.common.specs.Refusal.{refusal_number}
 use Rattle.common.specs.declared.Refusal.{Refusal}
@@ -26,18 +26,14 @@ use Rattle.mmu.specs.declared.exception.Access.TheVariants.{Read, Write, Fetch}
 use Rattle.privilege.specs.Registers.{sr_read, sr_written}
 use Rattle.privilege.specs.State.{mode_of}
 use Rattle.privilege.specs.Trap.{trapped, returned}
-use Rattle.privilege.specs.declared.registers.SrRead.{SrRead}
-use Rattle.privilege.specs.declared.registers.SrRead.TheVariants as srread
-use Rattle.privilege.specs.declared.registers.SrAnswer.{SrAnswer}
-use Rattle.privilege.specs.declared.registers.SrAnswer.TheVariants as sranswer
+use Rattle.machine.specs.declared.access.Fault.TheVariants.{Exception, BusError, Refused}
+use Rattle.machine.specs.declared.access.Fault.{Fault}
 use Rattle.privilege.specs.declared.registers.SrWritten.{SrWritten}
 use Rattle.script.specs.declared.Event.{Event}
 use Rattle.machine.specs.State.{with_cache, with_irqc, with_reg, reset_of}
-use Rattle.machine.specs.Access.{Result, access_of}
+use Rattle.machine.specs.Access.{Effect, access_of}
 use Rattle.machine.specs.declared.state.Machine.{Machine}
 use Rattle.machine.specs.declared.access.Accessed.{Accessed}
-use Rattle.machine.specs.declared.access.Outcome.{Outcome}
-use Rattle.machine.specs.declared.access.Outcome.TheVariants.{Value, Exception, BusError, Refused}
 use Rattle.machine.specs.declared.event.Stepped.{Stepped}
 pub mod Laws
 
@@ -48,11 +44,11 @@ pub record Step : Type 0 where
 -- ---- lines
 
 -- 'V' is 86, 'X' 88, 'B' 66, 'N' 78
-unfoldable pub line_of : Outcome → ℕ → ℕ → Line
-line_of (Value v) stall reads = line 86 v stall reads
-line_of (Exception e) stall reads = line 88 (cause_of e) stall reads
-line_of BusError stall reads = line 66 0 stall reads
-line_of (Refused r) stall reads = line 78 (refusal_number r) stall reads
+unfoldable pub line_of : Result ℕ Fault → ℕ → ℕ → Line
+line_of (Ok v) stall reads = line 86 v stall reads
+line_of (Err (Exception e)) stall reads = line 88 (cause_of e) stall reads
+line_of (Err BusError) stall reads = line 66 0 stall reads
+line_of (Err (Refused r)) stall reads = line 78 (refusal_number r) stall reads
 
 abbrev pub showing : ℕ → Line
 showing v = line 86 v 0 0
@@ -71,7 +67,7 @@ refuses M r = record { machine = M; line = refusing r }
 abbrev pub shows_access : Accessed → Stepped
 shows_access a = record { machine = a.machine; line = line_of a.outcome a.stall a.reads }
 
-abbrev pub from_access : Result → Step
+abbrev pub from_access : Effect → Step
 from_access r = record { stepped = shows_access r.accessed; memory = r.memory }
 
 -- 0: "load a"; 1: "store b at a"; 2: "fetch a"
@@ -99,17 +95,17 @@ return_event M =
     shows (with_reg M t.sys t.reg) t.epc
 
 -- 5: "read register aux"
-abbrev pub by_read : Machine → SrRead → Stepped
-by_read M (srread.Value v) = shows M v
-by_read M (srread.Refused r) = refuses M r
+abbrev pub by_read : Machine → Result ℕ Refusal → Stepped
+by_read M (Ok v) = shows M v
+by_read M (Err r) = refuses M r
 
 unfoldable pub read_event : Machine → Event → Stepped
 read_event M e = by_read M (sr_read M.sys e.aux M.reg)
 
 -- 6: "write a to it"
-abbrev pub by_written : Machine → SrWritten → SrAnswer → Stepped
-by_written M w sranswer.Done = shows (with_reg M w.sys w.reg) 0
-by_written M w (sranswer.Refused r) = refuses M r
+abbrev pub by_written : Machine → SrWritten → Result (Unit {0}) Refusal → Stepped
+by_written M w (Ok tt) = shows (with_reg M w.sys w.reg) 0
+by_written M w (Err r) = refuses M r
 
 unfoldable pub write_event : Machine → Event → Stepped
 write_event M e =

@@ -8,13 +8,13 @@
 --   Asks l l' k pa r                   == the cache is asked at pa and costs r
 --   Permits l l' m a n k r             == the check of an access leaves its state and permits r
 --   ReadsPermitted, WritesPermitted    == an access after its check: what it answers and leaves, if the check made this permit and this state
---   Grants l l' m a n k g              == the check of a word inside its page, over a good map, where it allows: as the permit of the grant g; elsewhere the machine stays
+--   Grants l l' m a n k r              == the check of a word inside its page, over a good map, where it allows: as the permit of the grant r; elsewhere there is none, and the machine stays
 --   ReadsGranted, WritesGranted        == a word that is granted, at any address inside its page: an access after its check
 --   Accesses l l' k m a n v r bytes    == a whole access: it answers r and leaves the memory's bytes
 --   Shows l l' r s                     == an event of the state alone comes to s
 --   Steps l l' base bytes e r bytes'   == any event: it shows the line r and leaves the memory's bytes
 --   AccessesAny, StepsAny              == both over any number of words: where there are not as many as a machine has, nothing moves
-use Rattle.std.specs.Prelude.{◌≡◌, ℕ, ◌+◌, ◌%◌, ◌^◌, ◌<◌, ◌≤◌, true, false, List, length}
+use Rattle.std.specs.Prelude.{◌≡◌, ℕ, ◌+◌, ◌%◌, ◌^◌, ◌<◌, ◌≤◌, true, List, length, Option, Some, None, Result, Err}
 use Rattle.cache.specs.Flat.{cache_words, cache_at}
 use Rattle.common.specs.declared.Refusal.TheVariants as refusal
 use Rattle.irqc.specs.declared.IrqController.{IrqController}
@@ -31,12 +31,12 @@ use Rattle.privilege.specs.declared.flat.access.Grant.{Grant}
 use Rattle.privilege.specs.declared.flat.access.Permit.{Permit}
 use Rattle.privilege.specs.declared.state.SystemState.{SystemState}
 use Rattle.script.specs.declared.Event.{Event}
-use Rattle.machine.specs.Access.{Result, presented, permitted, looked_up, access_of}
+use Rattle.machine.specs.Access.{Effect, presented, permitted, looked_up, access_of}
 use Rattle.machine.specs.Event.{refusing, step_of}
 use Rattle.machine.specs.State.{with_sys, with_cache}
 use Rattle.machine.specs.declared.access.Accessed.{Accessed}
-use Rattle.machine.specs.declared.access.Outcome.{Outcome}
-use Rattle.machine.specs.declared.access.Outcome.TheVariants as outcome
+use Rattle.machine.specs.declared.access.Fault.TheVariants as outcome
+use Rattle.machine.specs.declared.access.Fault.{Fault}
 use Rattle.machine.specs.declared.event.Stepped.{Stepped}
 use Rattle.machine.specs.declared.flat.access.Answer.{Answer}
 use Rattle.machine.specs.declared.state.Machine.{Machine}
@@ -69,11 +69,11 @@ Left l l' M = (length l' ≡ length l) × (machine_at l' ≡ M)
 
 -- ---- an access
 
-abbrev pub answer_of : Outcome → ℕ → ℕ → Answer
+abbrev pub answer_of : Result ℕ Fault → ℕ → ℕ → Answer
 answer_of outcome stall reads = record { outcome = outcome; stall = stall; reads = reads }
 
 abbrev pub no_answer : Answer
-no_answer = answer_of (outcome.Refused refusal.Map) 0 0
+no_answer = answer_of (Err (outcome.Refused refusal.Map)) 0 0
 
 abbrev pub accessed_as : Answer → Machine → Accessed
 accessed_as r M = record { machine = M; outcome = r.outcome; stall = r.stall; reads = r.reads }
@@ -87,7 +87,7 @@ Permits l l' m a n k r =
     Left l l' (with_sys (machine_at l) (check_access m (machine_at l).sys a n k).sys) × (r ≡ permit_of (check_access m (machine_at l).sys a n k) a n)
 
 -- what an access comes to by the check that was made in the state s
-abbrev pub checked_in : SystemState → Machine → Memory → ℕ → ℕ → ℕ → Access → Result
+abbrev pub checked_in : SystemState → Machine → Memory → ℕ → ℕ → ℕ → Access → Effect
 checked_in s M m a n v k =
     let c = check_access m s a n k in
     permitted k M m (looked_up c a n) n v c c.permission
@@ -108,9 +108,9 @@ WritesPermitted l l' m a n v permit r bytes =
 abbrev pub WordInPage : ℕ → Type 0
 WordInPage a = (a < 2 ^ 32) × (a % 4096 ≤ 4092)
 
-abbrev pub Grants : List ℕ → List ℕ → Memory → ℕ → ℕ → Access → Grant → Type 0
-Grants l l' m a n k g =
-    (g.granted ≡ true → (n ≡ 4) × (map_good m ≡ true) × WordInPage a × Permits l l' m a n k (permit_for g)) × (g.granted ≡ false → Left l l' (machine_at l))
+abbrev pub Grants : List ℕ → List ℕ → Memory → ℕ → ℕ → Access → Option Grant → Type 0
+Grants l l' m a n k r =
+    ((g : Grant) → r ≡ Some g → (n ≡ 4) × (map_good m ≡ true) × WordInPage a × Permits l l' m a n k (permit_for g)) × (r ≡ None → Left l l' (machine_at l))
 
 abbrev pub ReadsGranted : List ℕ → List ℕ → Memory → Access → Grant → Answer → Type 0
 ReadsGranted l l' m k g r = (a : ℕ) → WordInPage a → ReadsPermitted l l' m a 4 k (permit_for g) r

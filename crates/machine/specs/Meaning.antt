@@ -2,14 +2,14 @@
 --
 --   BadEvent e   == "event kind above 15, or kind 15 with a register above 31"
 --   Meaning      == the sentences, one field each
-use Rattle.std.specs.Prelude.{◌≡◌, ℕ, ◌<◌, ◌⊎◌, List, [], ◌∷◌, ◌≢◌}
+use Rattle.std.specs.Prelude.{◌≡◌, ℕ, ◌<◌, ◌⊎◌, List, [], ◌∷◌, ◌≢◌, Ok, Err}
 use Rattle.common.specs.declared.Refusal.{Refusal}
 use Rattle.common.specs.declared.Refusal.TheVariants as refusal
 use Rattle.memory.specs.Memory.{Memory}
 use Rattle.mmu.specs.declared.exception.Access.{Access}
 use Rattle.mmu.specs.declared.exception.Exception.{Exception}
 use Rattle.privilege.specs.Access.{check_access}
-use Rattle.privilege.specs.declared.check.Permission.TheVariants.{Allowed, Denied, Refused}
+use Rattle.privilege.specs.declared.check.AccessError.TheVariants.{Denied, Refused}
 use Rattle.script.specs.declared.Event.{Event}
 use Rattle.machine.specs.Access.{denied_with, refused_with, moved, looked_up, access_of}
 use Rattle.machine.specs.Event.{refusing, refuses, step_of}
@@ -22,13 +22,13 @@ BadEvent e = (15 < e.kind) ⊎ ((e.kind ≡ 15) × (31 < e.size))
 
 pub record Meaning : Type 0 where
   -- "Combined access (added): check; the cache once, at the first byte's physical address; memory."
-  pub allowed : (k : Access) (M : Machine) (m : Memory) (a n v : ℕ) → (check_access m M.sys a n k).permission ≡ Allowed
+  pub allowed : (k : Access) (M : Machine) (m : Memory) (a n v : ℕ) → (check_access m M.sys a n k).permission ≡ Ok tt
       → (let c = check_access m M.sys a n k in access_of k M m a n v ≡ moved k (with_sys M c.sys) m (looked_up c a n) n v c.reads)
   -- "A denied check touches neither."
-  pub denied : (k : Access) (M : Machine) (m : Memory) (a n v : ℕ) (x : Exception) → (check_access m M.sys a n k).permission ≡ Denied x
+  pub denied : (k : Access) (M : Machine) (m : Memory) (a n v : ℕ) (x : Exception) → (check_access m M.sys a n k).permission ≡ Err (Denied x)
       → (let c = check_access m M.sys a n k in access_of k M m a n v ≡ record { accessed = denied_with M c.sys x c.reads; memory = m })
   -- a refused access has moved nothing
-  pub refused : (k : Access) (M : Machine) (m : Memory) (a n v : ℕ) (r : Refusal) → (check_access m M.sys a n k).permission ≡ Refused r
+  pub refused : (k : Access) (M : Machine) (m : Memory) (a n v : ℕ) (r : Refusal) → (check_access m M.sys a n k).permission ≡ Err (Refused r)
       → access_of k M m a n v ≡ record { accessed = refused_with M r; memory = m }
   -- "6: event kind above 15, or kind 15 with a register above 31"; a refused call has changed nothing
   pub event_refused : (M : Machine) (m : Memory) (e : Event) → BadEvent e → step_of M m e ≡ record { stepped = refuses M refusal.Event; memory = m }

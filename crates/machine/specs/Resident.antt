@@ -4,7 +4,7 @@
 --   new_tidy, reset_tidy == the TLB of a new machine and of one that was reset is orderly
 --   step_tidy, run_tidy  == it stays so through an event, and through a run of events
 --   script_addressed     == a script's events are so
-use Rattle.std.specs.Prelude.{ℕ, zero, suc, ◌+◌, ◌^◌, ◌<◌, List, [], ◌∷◌, ◌==◌, nat_lt}
+use Rattle.std.specs.Prelude.{ℕ, zero, suc, ◌+◌, ◌^◌, ◌<◌, List, [], ◌∷◌, ◌==◌, nat_lt, Result, Ok, Err}
 use Rattle.common.specs.Cases.{cond_holds}
 use Rattle.common.specs.Lists.{Each}
 use Rattle.memory.specs.Memory.{Memory}
@@ -14,12 +14,9 @@ use Rattle.privilege.specs.Registers.{sr_read, sr_written}
 use Rattle.privilege.specs.Resident.{Tidy, check_tidy, write_tidy, trap_tidy, return_tidy}
 use Rattle.privilege.specs.Resident as state
 use Rattle.privilege.specs.declared.check.AccessChecked.{AccessChecked}
-use Rattle.privilege.specs.declared.check.Permission.{Permission}
-use Rattle.privilege.specs.declared.check.Permission.TheVariants.{Allowed, Denied, Refused}
-use Rattle.privilege.specs.declared.registers.SrAnswer.{SrAnswer}
-use Rattle.privilege.specs.declared.registers.SrAnswer.TheVariants as sranswer
-use Rattle.privilege.specs.declared.registers.SrRead.{SrRead}
-use Rattle.privilege.specs.declared.registers.SrRead.TheVariants as srread
+use Rattle.common.specs.declared.Refusal.{Refusal}
+use Rattle.privilege.specs.declared.check.AccessError.TheVariants.{Denied, Refused}
+use Rattle.privilege.specs.declared.check.AccessError.{AccessError}
 use Rattle.privilege.specs.declared.registers.SrWritten.{SrWritten}
 use Rattle.script.specs.Event.{events_from, events_none, events_next, event_address}
 use Rattle.script.specs.declared.Event.{Event}
@@ -45,11 +42,11 @@ reset_tidy M = state.new_tidy
 -- ---- an event
 
 module _ (M : Machine) (m : Memory) (o : Tidy M.sys) where
-  permitted_tidy : (k : Access) (l : List ℕ) (n v : ℕ) (c : AccessChecked) → Tidy c.sys → (p : Permission) → Tidy (permitted k M m l n v c p).accessed.machine.sys
+  permitted_tidy : (k : Access) (l : List ℕ) (n v : ℕ) (c : AccessChecked) → Tidy c.sys → (p : Result (Unit {0}) AccessError) → Tidy (permitted k M m l n v c p).accessed.machine.sys
   unfolding permitted
-  permitted_tidy k l n v c h Allowed = h
-  permitted_tidy k l n v c h (Denied e) = h
-  permitted_tidy k l n v c h (Refused r) = o
+  permitted_tidy k l n v c h (Ok tt) = h
+  permitted_tidy k l n v c h (Err (Denied e)) = h
+  permitted_tidy k l n v c h (Err (Refused r)) = o
 
   access_tidy : (k : Access) (a n v : ℕ) → a < 2 ^ 32 → Tidy (access_of k M m a n v).accessed.machine.sys
   unfolding access_of
@@ -60,13 +57,13 @@ module _ (M : Machine) (m : Memory) (o : Tidy M.sys) where
   abbrev Left : Stepped → Type 0
   Left s = Tidy s.machine.sys
 
-  by_read_lem : (x : SrRead) → Left (by_read M x)
-  by_read_lem (srread.Value v) = o
-  by_read_lem (srread.Refused r) = o
+  by_read_lem : (x : Result ℕ Refusal) → Left (by_read M x)
+  by_read_lem (Ok v) = o
+  by_read_lem (Err r) = o
 
-  by_written_lem : (w : SrWritten) (x : SrAnswer) → Tidy w.sys → Left (by_written M w x)
-  by_written_lem w sranswer.Done h = h
-  by_written_lem w (sranswer.Refused r) h = o
+  by_written_lem : (w : SrWritten) (x : Result (Unit {0}) Refusal) → Tidy w.sys → Left (by_written M w x)
+  by_written_lem w (Ok tt) h = h
+  by_written_lem w (Err r) h = o
 
   module _ (e : Event) where
     trap_left : Left (trap_event M e)

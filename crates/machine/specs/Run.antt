@@ -6,7 +6,7 @@
 --   script_events, first_machine, first_memory == a script's events, and what they start on: a new machine over the image
 --   script_run s h                             == a good script's run
 --   listing_of s                               == what a script prints: its run's lines and the last line, or only `refused` and its number
-use Rattle.std.specs.Prelude.{ℕ, List, [], ◌∷◌}
+use Rattle.std.specs.Prelude.{ℕ, List, [], ◌∷◌, Result, Ok, Err}
 use Rattle.common.specs.Refusal.{refusal_number}
 use Rattle.listing.specs.Listing.{listing_text, refused_text}
 use Rattle.listing.specs.declared.Line.{Line}
@@ -16,8 +16,7 @@ use Rattle.script.specs.declared.Event.{Event}
 use Rattle.script.specs.Header.{script_of}
 use Rattle.script.specs.Image.{bytes_from}
 use Rattle.script.specs.declared.header.Header.{Header}
-use Rattle.script.specs.declared.header.Script.{Script}
-use Rattle.script.specs.declared.header.Script.TheVariants.{Good, Refused}
+use Rattle.common.specs.declared.Refusal.{Refusal}
 use Rattle.machine.specs.Event.{step_of}
 use Rattle.machine.specs.State.{new_machine}
 use Rattle.machine.specs.declared.state.Machine.{Machine}
@@ -55,9 +54,9 @@ unfoldable pub script_run : List ℕ → Header → Run
 script_run s h = run_over (script_events s h) (first_machine h) (first_memory s h)
 
 -- by what the header says
-unfoldable pub listed : List ℕ → Script → List ℕ
-listed s (Good h) = listing_text (script_run s h).lines
-listed s (Refused r) = refused_text (refusal_number r)
+unfoldable pub listed : List ℕ → Result Header Refusal → List ℕ
+listed s (Ok h) = listing_text (script_run s h).lines
+listed s (Err r) = refused_text (refusal_number r)
 
 unfoldable pub listing_of : List ℕ → List ℕ
 listing_of s = listed s (script_of s)

@@ -2,7 +2,7 @@
 ghost use Rattle.std.specs.Prelude.{◌≡◌};
 ghost use Rattle.memory.specs.Memory.{lent};
 ghost use Rattle.mmu.specs.declared.exception.Access.TheVariants.{Read, Write, Fetch};
-ghost use Rattle.machine.specs.Access.{access_of};
+ghost use Rattle.machine.specs.Access.{access_of, fault_of, data_fault};
 ghost use Rattle.machine.specs.Flat.{accessed_as};
 
 use crate::flat;
@@ -11,20 +11,44 @@ use crate::flat::state::{STATE_WORDS, pack, unpack};
 use crate::state::Machine;
 use common::Refusal;
 use mmu::exception::Exception;
+use privilege::check::AccessError;
+use privilege::transfer::DataError;
 
+// Why an access has no value.
 #[derive(Clone, Copy)]
-pub enum Outcome {
-    Value(u32),
+pub enum Fault {
     Exception(Exception),
     // A byte of the data lies outside the map.
     BusError,
     Refused(Refusal),
 }
 
+impl From<AccessError> for Fault {
+    ghost from_gives = { λ e f. f ≡ fault_of e };
+
+    fn from(error: AccessError) -> Self {
+        match error {
+            AccessError::Denied(e) => Fault::Exception(e),
+            AccessError::Refused(r) => Fault::Refused(r),
+        }
+    }
+}
+
+impl From<DataError> for Fault {
+    ghost from_gives = { λ e f. f ≡ data_fault e };
+
+    fn from(error: DataError) -> Self {
+        match error {
+            DataError::BusError => Fault::BusError,
+            DataError::Refused(r) => Fault::Refused(r),
+        }
+    }
+}
+
 #[derive(Drop)]
 pub struct Accessed {
     pub machine: Machine,
-    pub outcome: Outcome,
+    pub outcome: Result<u32, Fault>,
     pub stall: u32,
     pub reads: u32,
 }
@@ -32,15 +56,16 @@ pub struct Accessed {
 fn with_machine(machine: Machine, answer: Answer) -> Accessed
     ensures { result ≡ accessed_as answer machine }
 {
-    let outcome = answer.outcome;
     Accessed {
         machine,
-        outcome,
+        outcome: answer.outcome,
         stall: answer.stall,
         reads: answer.reads,
     }
 }
 
+// Each of these packs, goes where the words stand and unpacks, as a step and a run do. No closure takes that way for them all: what one changes of
+// the memory that it borrows stands in no contract.
 impl Machine {
     pub fn load(self, mem: &[u8], base: u32, addr: u32, size: u32) -> Accessed
         ensures { result ≡ (access_of Read self (lent base mem.now) addr size 0).accessed }

@@ -11,7 +11,7 @@ use crate::flat::state::{STATE_WORDS, pack, unpack};
 use crate::state::Machine;
 use crate::totals::Totals;
 use listing::{LISTING_MAX, put_refused};
-use script::header::{Header, Script, copy_image, header_of};
+use script::header::{Header, copy_image, header_of};
 
 #[derive(Drop)]
 pub struct Ran {
@@ -42,11 +42,10 @@ impl Machine {
         let mut state = [0u32; STATE_WORDS];
         pack(&mut state, self);
         let listed = flat::run::run(&mut state, mem, base, script, first, count, out, at);
-        let totals = listed.totals;
         Ran {
             machine: unpack(&state),
             place: listed.place,
-            totals,
+            totals: listed.totals,
         }
     }
 }
@@ -66,14 +65,12 @@ fn list_good(script: &[u8], h: Header, mem: &mut [u8], out: &mut [u8]) -> usize
 pub fn list(script: &[u8], out: &mut [u8]) -> usize
     ensures { (out.new, result) ≡ written (out.old, 0) (listing_of script.now) }
 {
-    let read = header_of(script);
-    match read {
-        Script::Refused(r) => put_refused(out, 0, r.number()),
-        Script::Good(h) => {
+    match header_of(script) {
+        Ok(h) => {
             let mut mem = [0u8; 32768];
-            let image = h.image as usize;
-            list_good(script, h, &mut mem[..image], out)
+            list_good(script, h, &mut mem[..h.image as usize], out)
         }
+        Err(refusal) => put_refused(out, 0, refusal.number()),
     }
 }
 

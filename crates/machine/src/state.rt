@@ -30,6 +30,7 @@ impl Machine {
     }
 
     // R0 to R31 are kept, and so are the cache's range and penalty.
+    #[tactic(auto, unfolding(crate::specs::State::reset_of))]
     pub fn reset(self) -> Self
         ensures { result ≡ reset_of self }
     {

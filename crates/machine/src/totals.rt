@@ -21,11 +21,7 @@ pub struct Totals {
 fn one_more(n: u64, more: bool) -> u64
     ensures { result ≡ (if more then (n + 1) % 2 ^ 64 else n) }
 {
-    if more {
-        std::num::wrapping_add_u64(n, 1)
-    } else {
-        n
-    }
+    n.wrapping_add(u64::from(more))
 }
 
 impl Totals {
@@ -47,11 +43,11 @@ impl Totals {
     pub(crate) fn add(mut self, line: Line) -> Self
         ensures { result ≡ counted self line }
     {
-        self.digits = std::num::wrapping_add_u32(self.digits, line.digits);
-        self.stall = std::num::wrapping_add_u64(self.stall, line.stall);
-        self.reads = std::num::wrapping_add_u64(self.reads, line.reads as u64);
+        self.digits = self.digits.wrapping_add(line.digits);
+        self.stall = self.stall.wrapping_add(line.stall);
+        self.reads = self.reads.wrapping_add(line.reads as u64);
         if line.letter == b'V' {
-            self.values = std::num::wrapping_add_u64(self.values, 1);
+            self.values = self.values.wrapping_add(1);
             return self;
         }
         self.exceptions = one_more(self.exceptions, line.letter == b'X');

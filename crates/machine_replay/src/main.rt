@@ -3,38 +3,30 @@
 // The scripts stand in a row, each behind its length in four bytes. One that the input's end cuts off is not run, and a line says so.
 #![tactic(auto)]
 
-use common::be_word;
-use input::read_full;
 use std::io;
-use std::io::Write;
+use std::io::{Read, Write};
 
-fn show_cut<W: Write>(to: &mut W) -> io::Result<()> {
+// What is read of the input; the rest is left.
+const INPUT_MAX: u64 = 524288;
+
+fn show_all<W: Write>(to: &mut W, input: &[u8]) -> io::Result<()> {
+    let mut rest = input;
+    while let Some((length, scripts)) = rest.split_first_chunk() {
+        let length = u32::from_be_bytes(*length) as usize;
+        let Some((script, next)) = scripts.split_at_checked(length) else {
+            break;
+        };
+        inspection::show_changes(to, script)?;
+        rest = next;
+    }
+    if rest.is_empty() {
+        return Ok(());
+    }
     to.write_all(b"cut off\n")
 }
 
-fn show_all<W: Write>(to: &mut W, input: &[u8]) -> io::Result<()> {
-    let mut at: usize = 0;
-    while at < input.len() {
-        if input.len() - at < 4 {
-            return show_cut(to);
-        }
-        let length = be_word(input[at], input[at + 1], input[at + 2], input[at + 3]) as usize;
-        let first = at + 4;
-        if length > input.len() - first {
-            return show_cut(to);
-        }
-        inspection::show_changes(to, &input[first..first + length])?;
-        at = first + length;
-    }
-    Ok(())
-}
-
-fn empty_input() -> [u8; 524288] {
-    [0u8; 524288]
-}
-
 fn main(rt: HostRuntime) -> io::Result<()> {
-    let mut input = empty_input();
-    let n = read_full(&mut rt.stdin(), &mut input)?;
-    show_all(&mut rt.stdout(), &input[..n])
+    let mut input = Vec::new(rt.alloc());
+    rt.stdin().take(INPUT_MAX).read_to_end(&mut input)?;
+    show_all(&mut rt.stdout(), &input)
 }

@@ -2,8 +2,8 @@
 --
 --   Memory                 == the lent bytes and the physical address of the first
 --   good_map base n        == base and length are multiples of 4,096 and base + length is at most 0xFFFF0000, as a true sum
---   byte_at m a            == the byte at physical address a, or Outside
---   read_at m l            == the number whose bytes, high byte first, stand at the addresses l; Outside if one of them is
+--   byte_at m a            == the byte at physical address a, None outside the map
+--   read_at m l            == the number whose bytes, high byte first, stand at the addresses l; None if one of them is outside
 --   inside m a             == a is in the map
 --   readable, writable m a == a byte can be read there, or written
 --   put_byte m a b         == m with b at a, where a is writable
@@ -12,9 +12,7 @@
 --
 -- Reads and writes are over a list of addresses: where an access's addresses come from is the question of the parts above.
 -- A second, read-only memory would change `Memory`, `readable`, `byte_at` and `map_gate`, and none of what is said through them.
-use Rattle.std.specs.Prelude.{ℕ, ◌+◌, ◌-◌, ◌*◌, ◌%◌, Bool, true, cond, ◌&&◌, List, [], ◌∷◌, map, leb, ltb, eqb, length, get_or, set}
-use Rattle.memory.specs.declared.Content.{Content}
-use Rattle.memory.specs.declared.Content.TheVariants.{Value, Outside}
+use Rattle.std.specs.Prelude.{ℕ, ◌+◌, ◌-◌, ◌*◌, ◌%◌, Bool, true, cond, ◌&&◌, List, [], ◌∷◌, map, leb, ltb, eqb, length, get_or, set, Option, Some, None}
 pub mod Laws
 pub mod Bytewise
 
@@ -38,16 +36,16 @@ readable m a = inside m a
 abbrev pub writable : Memory → ℕ → Bool
 writable m a = inside m a
 
-unfoldable pub byte_at : Memory → ℕ → Content
-byte_at m a = cond (readable m a) (Value (get_or m.bytes (a - m.base) 0)) Outside
+unfoldable pub byte_at : Memory → ℕ → Option ℕ
+byte_at m a = cond (readable m a) (Some (get_or m.bytes (a - m.base) 0)) None
 
 -- the bytes go on after `high`; one that is missing makes the whole unreadable
-unfoldable pub gathered : ℕ → List Content → Content
-gathered high [] = Value high
-gathered high (Outside ∷ l) = Outside
-gathered high (Value b ∷ l) = gathered (high * 256 + b) l
+unfoldable pub gathered : ℕ → List (Option ℕ) → Option ℕ
+gathered high [] = Some high
+gathered high (None ∷ l) = None
+gathered high (Some b ∷ l) = gathered (high * 256 + b) l
 
-unfoldable pub read_at : Memory → List ℕ → Content
+unfoldable pub read_at : Memory → List ℕ → Option ℕ
 read_at m l = gathered 0 (map (byte_at m) l)
 
 -- the four addresses of a word

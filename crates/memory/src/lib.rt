@@ -2,10 +2,9 @@
 // not written.
 #![tactic(auto)]
 
-ghost use Rattle.std.specs.Prelude.{◌≡◌, length};
+ghost use Rattle.std.specs.Prelude.{◌≡◌, ◌≤◌, length, MatchOption};
 ghost use Rattle.memory.specs.Memory.{lent, good_map, byte_at, writable, put_byte, read_at, word_spots};
-
-use common::be_word;
+ghost use Rattle.memory.specs.Span.{Outside, BytesAt};
 
 pub mod gate;
 pub mod span;
@@ -14,13 +13,6 @@ pub mod span;
 pub const MAP_END: u64 = 0xFFFF_0000;
 
 pub const PAGE_SIZE: u64 = 4096;
-
-// What stands at an address, or at the addresses of a word.
-#[derive(Drop)]
-pub enum Content {
-    Value(u32),
-    Outside,
-}
 
 // A map of `len` bytes from `base` on. Refusal 2 is given exactly where this is false.
 pub fn good_range(base: u32, len: u64) -> bool
@@ -45,46 +37,34 @@ pub fn good_map(mem: &[u8], base: u32) -> bool
     good_range(base, mem.len() as u64)
 }
 
-pub fn read_byte(mem: &[u8], base: u32, addr: u32) -> Content
+// The bytes at an address, where all of them are in the map.
+pub(crate) fn bytes_at<const N: usize>(mem: &[u8], base: u32, addr: u32) -> Option<[u8; N]>
+    requires { N ≤ 4 }
+    ensures { MatchOption result (Outside base addr N mem.now) (λ bytes. BytesAt base addr N mem.now bytes) }
+{
+    let at = addr.checked_sub(base)? as usize;
+    let bytes = mem.get(at..at + N)?.first_chunk::<N>()?;
+    Some(*bytes)
+}
+
+pub fn read_byte(mem: &[u8], base: u32, addr: u32) -> Option<u32>
     ensures { result ≡ byte_at (lent base mem.now) addr }
 {
-    if addr < base {
-        return Content::Outside;
-    }
-    let at = (addr - base) as usize;
-    if at < mem.len() {
-        Content::Value(mem[at] as u32)
-    } else {
-        Content::Outside
-    }
+    let [byte] = bytes_at::<1>(mem, base, addr)?;
+    Some(byte as u32)
 }
 
 // The big-endian word at an address. One byte outside makes it unreadable.
-pub fn read_word(mem: &[u8], base: u32, addr: u32) -> Content
+pub fn read_word(mem: &[u8], base: u32, addr: u32) -> Option<u32>
     ensures { result ≡ read_at (lent base mem.now) (word_spots addr) }
 {
-    if addr < base {
-        return Content::Outside;
-    }
-    let at = (addr - base) as usize;
-    if at + 3 < mem.len() {
-        Content::Value(be_word(mem[at], mem[at + 1], mem[at + 2], mem[at + 3]))
-    } else {
-        Content::Outside
-    }
+    let bytes = bytes_at(mem, base, addr)?;
+    Some(u32::from_be_bytes(bytes))
 }
 
 // Writes a byte where that is in the map, and says whether it is.
 pub fn put_byte(mem: &mut [u8], base: u32, addr: u32, b: u8) -> bool
     ensures { (result ≡ writable (lent base mem.old) addr) × (mem.new ≡ (put_byte (lent base mem.old) addr b).bytes) }
 {
-    if addr < base {
-        return false;
-    }
-    let at = (addr - base) as usize;
-    if at < mem.len() {
-        mem[at] = b;
-        return true;
-    }
-    false
+    span::put_spot(mem, base, addr as u64, b)
 }

@@ -1,11 +1,13 @@
 -- The ways through extension V's state as words. Assumes nothing.
-use Rattle.std.proofs.Common.{◌≡◌, ℕ, ◌+◌, ◌-◌, ◌*◌, ◌/◌, ◌%◌, ◌^◌, ◌<◌, ◌≤◌, Bool, true, false, cond, eqb, List, [], ◌∷◌, length, get_or, drop, set, sym, refl, ap, ◌∙◌, arith, length-set, get_or-set_same, le-ltb, lt-ltb, eq-eqb, ne_eqb}
+use Rattle.std.proofs.Common.{◌≡◌, ℕ, ◌+◌, ◌-◌, ◌*◌, ◌/◌, ◌%◌, ◌^◌, ◌<◌, ◌≤◌, Bool, true, false, cond, eqb, List, [], ◌∷◌, length, get_or, drop, set, sym, refl, ap, ◌∙◌, arith, length-set, get_or-set_same, eq-eqb, ne_eqb, Option, Some, None, Result, Ok, Err}
+use Rattle.std.specs.Array.{IsWholeChunk}
+use Rattle.std.specs.Int.{from_bool}
 use Rattle.common.specs.Cases.{absurd_eq}
 use Rattle.common.specs.Lists.{map_to, map_to_none, map_to_next, map_to_done, over_to, over_to_none, over_to_next, over_to_done}
-use Rattle.layout.specs.Words.{part, word_at, on_at, bit_word, Reads, part_length, reads_all}
+use Rattle.layout.specs.Words.{part, word_at, on_at, bit_word, Over, Reads, part_length, over_all, reads_all}
 use Rattle.memory.specs.Memory.{Memory}
 use Rattle.mmu.specs.Check.{page_addr, permits, faulted, judged, checked, last_page}
-use Rattle.mmu.specs.Flat.{tlb_start, tlb_words, vm_words, pages_is, pages_as, CheckedPages, CheckedPage, WalkedPage, grant_to, no_grant, GrantedBy, GrantsPage, GrantsWalk, entry_at, vm_at, slot_at, with_entry, with_registers, dropped_word}
+use Rattle.mmu.specs.Flat.{tlb_start, tlb_words, vm_words, no_pages, pages_is, pages_as, CheckedPages, CheckedPage, WalkedPage, grant_to, GrantedBy, GrantsPage, GrantsWalk, entry_at, vm_at, with_entry, with_registers, dropped_word}
 use Rattle.mmu.specs.Flat.Laws.{words_of, bit_on, tlb_slots, entry_is, slot_is, word_is, vm_enabled_lem, vm_ptbr_lem, vm_vfault, vm_victim, vm_word, vm_entry}
 use Rattle.mmu.specs.Opened.Laws.{walked_matches}
 use Rattle.mmu.specs.Tlb.{no_entry, no_entries, matches, first_match, dropped, dropped_page}
@@ -14,17 +16,15 @@ use Rattle.mmu.specs.Vm.{new_vm, with_tlb, victim, filled, flushed, invalidated,
 use Rattle.mmu.specs.Vm.Laws.{frame_same}
 use Rattle.mmu.specs.Walk.{walk_of}
 use Rattle.mmu.specs.declared.check.Checked.{Checked}
-use Rattle.mmu.specs.declared.check.Verdict.{Verdict}
-use Rattle.mmu.specs.declared.check.Verdict.TheVariants.{Allowed, Denied}
+use Rattle.mmu.specs.declared.walk.WalkFault.{WalkFault}
+use Rattle.mmu.specs.declared.walk.WalkFault.TheVariants as walked
 use Rattle.mmu.specs.declared.exception.Access.{Access}
 use Rattle.mmu.specs.declared.exception.Exception.{Exception}
 use Rattle.mmu.specs.declared.exception.Exception.TheVariants.{BusError}
 use Rattle.mmu.specs.declared.flat.Pages.{Pages}
-use Rattle.mmu.specs.declared.tlb.Slot.TheVariants.{At, Nothing}
 use Rattle.mmu.specs.declared.tlb.TlbEntry.{TlbEntry}
 use Rattle.mmu.specs.declared.flat.PageGrant.{PageGrant}
 use Rattle.mmu.specs.declared.vm.Vm.{Vm}
-use Rattle.mmu.specs.declared.walk.Walked.TheVariants as walked
 use Rattle.mmu.specs.declared.walk.WalkAnswer.{WalkAnswer}
 use Rattle.mmu.proofs.Pages.{page_reserved, page_resident, page_walked, walk_leaf_lem, walk_missing, walk_bus, From, reads_fit, reads_few, each_denied, each_last, next_low, next_page_lem, each_more}
 use Rattle.mmu.proofs.Search.{none_left, found_here, not_valid, other_page}
@@ -33,37 +33,44 @@ use Rattle.mmu.proofs.Search.{none_left, found_here, not_valid, other_page}
 pub entry_inside : (l w : List ℕ) (slot j : ℕ) → length w ≡ length l → length l ≡ vm_words → slot < 16 → j < 4 → tlb_start + 4 * slot + j < length w
 entry_inside l w slot j p q h b = omega arith
 
+-- what a check and a grant promise of lent words l, from what they did to them as an array w
+module _ (m : Memory) (k : Access) (l w l' : List ℕ) (same : IsWholeChunk l w vm_words) (long : length l' ≡ vm_words) where
+  pub checks_all : (addr size : ℕ) (x : Pages) → CheckedPages m k addr size (vm_at w) x (vm_at l') → Over vm_words l l' x no_pages (CheckedPages m k addr size (vm_at l) x (vm_at l'))
+  checks_all addr size x p = over_all vm_words l x no_pages l' _ same.long (long ∙ sym same.long) (rw same.same at p)
+
+  pub grants_all : (va : ℕ) (x : Option PageGrant) → GrantsPage m k va (vm_at w) x (vm_at l') → Over vm_words l l' x None (GrantsPage m k va (vm_at l) x (vm_at l'))
+  grants_all va x p = over_all vm_words l x None l' _ same.long (long ∙ sym same.long) (rw same.same at p)
+
+-- a truth value as a number is its word
+bit_byte : (b : Bool) → from_bool b ≡ bit_word b
+bit_byte true = refl
+bit_byte false = refl
+
 -- ---- entries
 
 pub entry_read : (l : List ℕ) (i : ℕ) → i < 16
     → ◌≡◌ {A = TlbEntry} (record { valid = on_at l (tlb_start + 4 * i); vpn = word_at l (tlb_start + 4 * i + 1); ppn = word_at l (tlb_start + 4 * i + 2); flags = word_at l (tlb_start + 4 * i + 3) }) (get_or (vm_at l).tlb i no_entry)
 entry_read l i h = sym (entry_is l i h)
 
-pub entry_put : (l : List ℕ) (i b : ℕ) (e : TlbEntry) → length l ≡ vm_words → i < 16 → b ≡ bit_word e.valid
+pub entry_put : (l : List ℕ) (i b : ℕ) (e : TlbEntry) → length l ≡ vm_words → i < 16 → b ≡ from_bool e.valid
     → vm_at (set (set (set (set l (tlb_start + 4 * i) b) (tlb_start + 4 * i + 1) e.vpn) (tlb_start + 4 * i + 2) e.ppn) (tlb_start + 4 * i + 3) e.flags) ≡ with_entry (vm_at l) i e
-entry_put l i b e long h w = vm_entry l i b e.vpn e.ppn e.flags long h ∙ rw (w, bit_on e.valid)
+entry_put l i b e long h w = vm_entry l i b e.vpn e.ppn e.flags long h ∙ rw (w, bit_byte e.valid, bit_on e.valid)
 
 -- ---- the search
 
-module _ (vpn : ℕ) (l : List ℕ) (n i : ℕ) (all : n ≡ 16) (p : first_match vpn 0 (vm_at l).tlb ≡ first_match vpn i (drop i (vm_at l).tlb)) where
-  pub slot_none : n ≤ i → first_match vpn 0 (vm_at l).tlb ≡ slot_at 16
-  unfolding slot_at
-  slot_none h = sym (none_left _ vpn (vm_at l).tlb i p (omega (arith, tlb_slots l)))
+module _ (vpn : ℕ) (l : List ℕ) (i : ℕ) (p : first_match vpn 0 (vm_at l).tlb ≡ first_match vpn i (drop i (vm_at l).tlb)) where
+  pub slot_none : 16 ≤ i → None ≡ first_match vpn 0 (vm_at l).tlb
+  slot_none h = none_left _ vpn (vm_at l).tlb i p (omega (arith, tlb_slots l))
 
-  module _ (few : i < n) where
-    h : i < 16
-    h = omega arith
-
+  module _ (h : i < 16) where
     on_is : (get_or (vm_at l).tlb i no_entry).valid ≡ eqb (get_or l (tlb_start + 4 * i) 0 % 2) 1
     on_is = ap (λ (e : TlbEntry). e.valid) (entry_is l i h)
 
     page_is : (get_or (vm_at l).tlb i no_entry).vpn ≡ get_or l (tlb_start + 4 * i + 1) 0
     page_is = ap (λ (e : TlbEntry). e.vpn) (entry_is l i h)
 
-    pub slot_here : get_or l (tlb_start + 4 * i + 1) 0 ≡ vpn → get_or l (tlb_start + 4 * i) 0 % 2 ≡ 1 → first_match vpn 0 (vm_at l).tlb ≡ slot_at i
-    unfolding slot_at
-    slot_here e v =
-        rw (lt-ltb i 16 h) (sym (found_here _ vpn (vm_at l).tlb i p (omega (arith, tlb_slots l)) (on_is ∙ eq-eqb _ _ v) (page_is ∙ e)))
+    pub slot_here : get_or l (tlb_start + 4 * i + 1) 0 ≡ vpn → get_or l (tlb_start + 4 * i) 0 % 2 ≡ 1 → Some i ≡ first_match vpn 0 (vm_at l).tlb
+    slot_here e v = found_here _ vpn (vm_at l).tlb i p (omega (arith, tlb_slots l)) (on_is ∙ eq-eqb _ _ v) (page_is ∙ e)
 
     pub slot_other : (get_or l (tlb_start + 4 * i + 1) 0 ≡ vpn → ⊥) → first_match vpn 0 (vm_at l).tlb ≡ first_match vpn (i + 1) (drop (i + 1) (vm_at l).tlb)
     slot_other e = other_page _ vpn (vm_at l).tlb i p (omega (arith, tlb_slots l)) (λ q. e (sym page_is ∙ q))
@@ -75,14 +82,14 @@ pub ruleset slots = (slot_none, slot_here, slot_other, slot_unmarked)
 
 -- ---- the frame
 
-module _ (l : List ℕ) (va slot : ℕ) (is : slot_of (vm_at l) va ≡ slot_at slot) where
-  pub frame_there : length l ≡ vm_words → slot < 16 → Reads vm_words l (get_or l (tlb_start + 4 * slot + 2) 0) 0 (frame_of (vm_at l) va)
-  unfolding frame_of slot_at
-  frame_there long h = reads_all vm_words l _ _ _ long (rw (is, lt-ltb slot 16 h) (sym (ap (λ (e : TlbEntry). e.ppn) (entry_is l slot h))))
+module _ (l : List ℕ) (va : ℕ) (s : Option ℕ) (is : s ≡ slot_of (vm_at l) va) where
+  pub frame_there : (slot : ℕ) (e : TlbEntry) → s ≡ Some slot → e ≡ get_or (vm_at l).tlb slot no_entry → e.ppn ≡ frame_of (vm_at l) va
+  unfolding frame_of
+  frame_there slot e at g = rw (← is, at, g)
 
-  pub frame_none : length l ≡ vm_words → 16 ≤ slot → Reads vm_words l 0 0 (frame_of (vm_at l) va)
-  unfolding frame_of slot_at
-  frame_none long h = reads_all vm_words l _ _ _ long (rw (is, le-ltb slot 16 h))
+  pub frame_none : s ≡ None → 0 ≡ frame_of (vm_at l) va
+  unfolding frame_of
+  frame_none at = rw (← is, at)
 
 pub ruleset frames = (frame_there, frame_none)
 
@@ -167,12 +174,12 @@ pub flush_done : (l l' l'' : List ℕ) (t : List TlbEntry) → vm_at l' ≡ with
 unfolding flushed
 flush_done l l' l'' t p q e = q ∙ rw (p, e)
 
-pub registers_put : (l : List ℕ) (b : ℕ) (on : Bool) (ptbr vfault : ℕ) → length l ≡ vm_words → b ≡ bit_word on
+pub registers_put : (l : List ℕ) (b : ℕ) (on : Bool) (ptbr vfault : ℕ) → length l ≡ vm_words → b ≡ from_bool on
     → vm_at (set (set (set l 0 b) 1 ptbr) 2 vfault) ≡ with_registers (vm_at l) on ptbr vfault
 registers_put l b on ptbr vfault long e =
     let m : List ℕ = set l 0 b in
     let n : length m ≡ vm_words = length-set l 0 b ∙ long in
-    vm_vfault (set m 1 ptbr) (length-set m 1 ptbr ∙ n) vfault ∙ rw (vm_ptbr_lem m n ptbr, vm_enabled_lem l long b, e, bit_on on)
+    vm_vfault (set m 1 ptbr) (length-set m 1 ptbr ∙ n) vfault ∙ rw (vm_ptbr_lem m n ptbr, vm_enabled_lem l long b, e, bit_byte on, bit_on on)
 
 pub pack_done : (l l' l'' l''' : List ℕ) (v : Vm) → vm_at l' ≡ with_tlb (vm_at l) v.tlb (vm_at l).next_victim → vm_at l'' ≡ with_tlb (vm_at l') (vm_at l').tlb v.next_victim
     → vm_at l''' ≡ with_registers (vm_at l'') v.enabled v.ptbr v.vfault → vm_at l''' ≡ v
@@ -189,7 +196,7 @@ pub fill_done : (l l' l'' : List ℕ) (slot : ℕ) (e : TlbEntry) → slot ≡ g
 unfolding filled
 fill_done l l' l'' slot e p q r = r ∙ rw (q, p ∙ low_victim l)
 
-filled_frame : (v : Vm) (va : ℕ) (e : TlbEntry) → length v.tlb ≡ 16 → slot_of v va ≡ Nothing → matches (va / 4096) e ≡ true → frame_of (filled v e) va ≡ e.ppn
+filled_frame : (v : Vm) (va : ℕ) (e : TlbEntry) → length v.tlb ≡ 16 → slot_of v va ≡ None → matches (va / 4096) e ≡ true → frame_of (filled v e) va ≡ e.ppn
 unfolding filled frame_of
 filled_frame v va e n none h =
     let at : victim v < length v.tlb = omega arith in
@@ -198,37 +205,33 @@ filled_frame v va e n none h =
 -- ---- the check of one page
 
 module _ (m : Memory) (k : Access) (va : ℕ) (l : List ℕ) (x : Pages) where
-  pub page_denied : (v : Verdict) → 0xFFFF_0000 ≤ page_addr (va / 4096) → v ≡ faulted k true va → x ≡ pages_is v 0 0 → CheckedPage m k va (vm_at l) x (vm_at l)
+  pub page_denied : (v : Result (Unit {0}) Exception) → 0xFFFF_0000 ≤ page_addr (va / 4096) → v ≡ faulted k true va → x ≡ pages_is v 0 0 → CheckedPage m k va (vm_at l) x (vm_at l)
   page_denied v h q e = (page_reserved m (vm_at l) k va _ v h q (ap (λ (y : Pages). pages_as y (vm_at l)) e), λ a. absurd_eq (cc))
 
-  pub page_found : (slot : ℕ) (t : TlbEntry) (v : Verdict) → page_addr (va / 4096) < 0xFFFF_0000 → slot < 16 → slot_of (vm_at l) va ≡ slot_at slot
+  pub page_found : (s : Option ℕ) (slot : ℕ) (t : TlbEntry) (v : Result (Unit {0}) Exception) → page_addr (va / 4096) < 0xFFFF_0000 → s ≡ slot_of (vm_at l) va → s ≡ Some slot
       → t ≡ get_or (vm_at l).tlb slot no_entry → v ≡ judged t k va → x ≡ pages_is v t.ppn 0 → CheckedPage m k va (vm_at l) x (vm_at l)
-  unfolding slot_at frame_of
-  page_found slot t v h b f g j e =
-      let at : slot_of (vm_at l) va ≡ At slot = rw (lt-ltb slot 16 b) at f in (
-        page_resident m (vm_at l) k va _ (At slot) slot v h (sym at) refl (j ∙ ap (λ (y : TlbEntry). judged y k va) g) (ap (λ (y : Pages). pages_as y (vm_at l)) e),
-        λ a. rw (at, e, g),
-      )
+  unfolding frame_of
+  page_found s slot t v h f at g j e = (
+    page_resident m (vm_at l) k va _ s slot v h f at (j ∙ ap (λ (y : TlbEntry). judged y k va) g) (ap (λ (y : Pages). pages_as y (vm_at l)) e),
+    λ a. rw (← f, at, e, g),
+  )
 
-  pub page_walks : (slot : ℕ) (l' : List ℕ) → page_addr (va / 4096) < 0xFFFF_0000 → 16 ≤ slot → slot_of (vm_at l) va ≡ slot_at slot
+  pub page_walks : (s : Option ℕ) (l' : List ℕ) → page_addr (va / 4096) < 0xFFFF_0000 → s ≡ slot_of (vm_at l) va → s ≡ None
       → WalkedPage m k va (vm_at l) x (vm_at l') → CheckedPage m k va (vm_at l) x (vm_at l')
-  unfolding slot_at
-  page_walks slot l' h b f w =
-      let none : slot_of (vm_at l) va ≡ Nothing = rw (le-ltb slot 16 b) at f in
-      (page_walked m (vm_at l) k va _ Nothing h (sym none) refl (w none).0, (w none).1)
+  page_walks s l' h f at w = let none = sym f ∙ at in (page_walked m (vm_at l) k va _ s h f at (w none).0, (w none).1)
 
   module _ (w : WalkAnswer) (is : w ≡ walk_of m (get_or l 1 0) va) where
     walks : w ≡ walk_of m (vm_at l).ptbr va
     unfolding vm_at
     walks = is
 
-    pub page_missing : (v : Verdict) → w.walked ≡ walked.Missing → v ≡ faulted k false va → x ≡ pages_is v 0 w.reads → WalkedPage m k va (vm_at l) x (vm_at l)
-    page_missing v p q e none = (walk_missing (vm_at l) k va _ w walks _ v p q (ap (λ (y : Pages). pages_as y (vm_at l)) e), λ a. absurd_eq (cc))
+    pub page_missing : (f : WalkFault) (v : Result (Unit {0}) Exception) → w.walked ≡ Err f → f ≡ walked.Missing → v ≡ faulted k false va → x ≡ pages_is v 0 w.reads → WalkedPage m k va (vm_at l) x (vm_at l)
+    page_missing f v p m' q e none = (walk_missing (vm_at l) k va _ w walks _ f v p m' q (ap (λ (y : Pages). pages_as y (vm_at l)) e), λ a. absurd_eq (cc))
 
-    pub page_bus : w.walked ≡ walked.BusError → x ≡ pages_is (Denied BusError) 0 w.reads → WalkedPage m k va (vm_at l) x (vm_at l)
-    page_bus p e none = (walk_bus (vm_at l) k va _ w walks _ p (ap (λ (y : Pages). pages_as y (vm_at l)) e), λ a. absurd_eq (cc))
+    pub page_bus : (f : WalkFault) → w.walked ≡ Err f → f ≡ walked.BusError → x ≡ pages_is (Err BusError) 0 w.reads → WalkedPage m k va (vm_at l) x (vm_at l)
+    page_bus f p m' e none = (walk_bus (vm_at l) k va _ w walks _ f p m' (ap (λ (y : Pages). pages_as y (vm_at l)) e), λ a. absurd_eq (cc))
 
-    pub page_leaf : (t : TlbEntry) (v : Verdict) (l' : List ℕ) → w.walked ≡ walked.Leaf t → vm_at l' ≡ filled (vm_at l) t → v ≡ judged t k va
+    pub page_leaf : (t : TlbEntry) (v : Result (Unit {0}) Exception) (l' : List ℕ) → w.walked ≡ Ok t → vm_at l' ≡ filled (vm_at l) t → v ≡ judged t k va
         → x ≡ pages_is v t.ppn w.reads → WalkedPage m k va (vm_at l) x (vm_at l')
     page_leaf t v l' p q j e none =
         let h = walked_matches m (vm_at l).ptbr va t (sym (ap (λ (o : WalkAnswer). o.walked) walks) ∙ p) in (
@@ -240,14 +243,14 @@ pub ruleset pages = (page_denied, page_found, page_walks, page_missing, page_bus
 
 -- ---- a grant, by the check of the page
 
-grant_opens : (c : Checked) (va : ℕ) (v : Vm) (x : PageGrant) (v' : Vm) (p n : ℕ) → c ≡ checked v' Allowed n → frame_of v' va ≡ p → x ≡ grant_to p n → GrantedBy c va v x v'
+grant_opens : (c : Checked) (va : ℕ) (v : Vm) (x : Option PageGrant) (v' : Vm) (p n : ℕ) → c ≡ checked v' (Ok tt) n → frame_of v' va ≡ p → x ≡ Some (grant_to p n) → GrantedBy c va v x v'
 grant_opens c va v x v' p n is f e = (e ∙ rw (is, f), rw is)
 
-grant_shuts : (c : Checked) (va : ℕ) (v v' : Vm) (x : PageGrant) (e : Exception) (n : ℕ) → c ≡ checked v' (Denied e) n → x ≡ no_grant → GrantedBy c va v x v
+grant_shuts : (c : Checked) (va : ℕ) (v v' : Vm) (x : Option PageGrant) (e : Exception) (n : ℕ) → c ≡ checked v' (Err e) n → x ≡ None → GrantedBy c va v x v
 grant_shuts c va v v' x e n is q = (q ∙ rw is, rw is)
 
 -- what the entry grants is what is judged
-judged_open : (t : TlbEntry) (k : Access) (va : ℕ) (b : Bool) → b ≡ permits t k → b ≡ true → judged t k va ≡ Allowed
+judged_open : (t : TlbEntry) (k : Access) (va : ℕ) (b : Bool) → b ≡ permits t k → b ≡ true → judged t k va ≡ Ok tt
 unfolding judged
 judged_open t k va b is on = rw (← is, on)
 
@@ -255,48 +258,42 @@ judged_shut : (t : TlbEntry) (k : Access) (va : ℕ) (b : Bool) → b ≡ permit
 unfolding judged
 judged_shut t k va b is off = rw (← is, off)
 
-module _ (m : Memory) (k : Access) (va : ℕ) (l : List ℕ) (x : PageGrant) where
-  pub grant_reserved : 0xFFFF_0000 ≤ page_addr (va / 4096) → x ≡ no_grant → GrantsPage m k va (vm_at l) x (vm_at l)
+module _ (m : Memory) (k : Access) (va : ℕ) (l : List ℕ) (x : Option PageGrant) where
+  pub grant_reserved : 0xFFFF_0000 ≤ page_addr (va / 4096) → x ≡ None → GrantsPage m k va (vm_at l) x (vm_at l)
   grant_reserved h e = grant_shuts _ va (vm_at l) (vm_at l) x _ 0 (sym (page_reserved m (vm_at l) k va _ _ h refl refl)) e
 
-  module _ (slot : ℕ) (t : TlbEntry) (b : Bool) (h : page_addr (va / 4096) < 0xFFFF_0000) (few : slot < 16) (f : slot_of (vm_at l) va ≡ slot_at slot)
+  module _ (s : Option ℕ) (slot : ℕ) (t : TlbEntry) (b : Bool) (h : page_addr (va / 4096) < 0xFFFF_0000) (f : s ≡ slot_of (vm_at l) va) (at : s ≡ Some slot)
       (g : t ≡ get_or (vm_at l).tlb slot no_entry) (is : b ≡ permits t k) where
-    there : (v : Verdict) → judged t k va ≡ v → CheckedPage m k va (vm_at l) (pages_is v t.ppn 0) (vm_at l)
-    there v j = page_found m k va l (pages_is v t.ppn 0) slot t v h few f g (sym j) refl
+    there : (v : Result (Unit {0}) Exception) → judged t k va ≡ v → CheckedPage m k va (vm_at l) (pages_is v t.ppn 0) (vm_at l)
+    there v j = page_found m k va l (pages_is v t.ppn 0) s slot t v h f at g (sym j) refl
 
-    pub grant_resident : b ≡ true → x ≡ grant_to t.ppn 0 → GrantsPage m k va (vm_at l) x (vm_at l)
+    pub grant_resident : b ≡ true → x ≡ Some (grant_to t.ppn 0) → GrantsPage m k va (vm_at l) x (vm_at l)
     grant_resident on e =
-        let open' = there Allowed (judged_open t k va b is on) in
+        let open' = there (Ok tt) (judged_open t k va b is on) in
         grant_opens _ va (vm_at l) x (vm_at l) t.ppn 0 (sym open'.0) (open'.1 refl) e
 
-    pub grant_denied : b ≡ false → x ≡ no_grant → GrantsPage m k va (vm_at l) x (vm_at l)
+    pub grant_denied : b ≡ false → x ≡ None → GrantsPage m k va (vm_at l) x (vm_at l)
     grant_denied off e = grant_shuts _ va (vm_at l) (vm_at l) x _ 0 (sym (there _ (judged_shut t k va b is off)).0) e
 
-  pub grant_walks : (slot : ℕ) (l' : List ℕ) → page_addr (va / 4096) < 0xFFFF_0000 → 16 ≤ slot → slot_of (vm_at l) va ≡ slot_at slot
+  pub grant_walks : (s : Option ℕ) (l' : List ℕ) → page_addr (va / 4096) < 0xFFFF_0000 → s ≡ slot_of (vm_at l) va → s ≡ None
       → GrantsWalk m k va (vm_at l) x (vm_at l') → GrantsPage m k va (vm_at l) x (vm_at l')
-  unfolding slot_at
-  grant_walks slot l' h b f w =
-      let none : slot_of (vm_at l) va ≡ Nothing = rw (le-ltb slot 16 b) at f in
-      let same = page_walked m (vm_at l) k va _ Nothing h (sym none) refl refl in
-      rw same at (w none)
+  grant_walks s l' h f at w = let same = page_walked m (vm_at l) k va _ s h f at refl in rw same at (w (sym f ∙ at))
 
   module _ (w : WalkAnswer) (is : w ≡ walk_of m (get_or l 1 0) va) where
-    pub grant_missing : w.walked ≡ walked.Missing → x ≡ no_grant → GrantsWalk m k va (vm_at l) x (vm_at l)
-    grant_missing p e none = grant_shuts _ va (vm_at l) (vm_at l) x _ w.reads (sym (page_missing m k va l (pages_is (faulted k false va) 0 w.reads) w is _ p refl refl none).0) e
+    pub grant_fault : (f : WalkFault) → w.walked ≡ Err f → x ≡ None → GrantsWalk m k va (vm_at l) x (vm_at l)
+    grant_fault walked.Missing p e none = grant_shuts _ va (vm_at l) (vm_at l) x _ w.reads (sym (page_missing m k va l (pages_is (faulted k false va) 0 w.reads) w is _ _ p refl refl refl none).0) e
+    grant_fault walked.BusError p e none = grant_shuts _ va (vm_at l) (vm_at l) x _ w.reads (sym (page_bus m k va l (pages_is (Err BusError) 0 w.reads) w is _ p refl refl none).0) e
 
-    pub grant_bus : w.walked ≡ walked.BusError → x ≡ no_grant → GrantsWalk m k va (vm_at l) x (vm_at l)
-    grant_bus p e none = grant_shuts _ va (vm_at l) (vm_at l) x _ w.reads (sym (page_bus m k va l (pages_is (Denied BusError) 0 w.reads) w is p refl none).0) e
-
-    module _ (t : TlbEntry) (b : Bool) (p : w.walked ≡ walked.Leaf t) (may : b ≡ permits t k) where
-      pub grant_leaf : (l' : List ℕ) → b ≡ true → vm_at l' ≡ filled (vm_at l) t → x ≡ grant_to t.ppn w.reads → GrantsWalk m k va (vm_at l) x (vm_at l')
+    module _ (t : TlbEntry) (b : Bool) (p : w.walked ≡ Ok t) (may : b ≡ permits t k) where
+      pub grant_leaf : (l' : List ℕ) → b ≡ true → vm_at l' ≡ filled (vm_at l) t → x ≡ Some (grant_to t.ppn w.reads) → GrantsWalk m k va (vm_at l) x (vm_at l')
       grant_leaf l' on q e none =
-          let open' = page_leaf m k va l (pages_is Allowed t.ppn w.reads) w is t Allowed l' p q (sym (judged_open t k va b may on)) refl none in
+          let open' = page_leaf m k va l (pages_is (Ok tt) t.ppn w.reads) w is t (Ok tt) l' p q (sym (judged_open t k va b may on)) refl none in
           grant_opens _ va (vm_at l) x (vm_at l') t.ppn w.reads (sym open'.0) (open'.1 refl) e
 
-      pub grant_shut : b ≡ false → x ≡ no_grant → GrantsWalk m k va (vm_at l) x (vm_at l)
-      grant_shut off e none = grant_shuts _ va (vm_at l) (filled (vm_at l) t) x _ w.reads (sym (walk_leaf_lem (vm_at l) k va _ w (walks m k va l (pages_is Allowed 0 0) w is) _ t (filled (vm_at l) t) _ p refl (sym (judged_shut t k va b may off)) refl)) e
+      pub grant_shut : b ≡ false → x ≡ None → GrantsWalk m k va (vm_at l) x (vm_at l)
+      grant_shut off e none = grant_shuts _ va (vm_at l) (filled (vm_at l) t) x _ w.reads (sym (walk_leaf_lem (vm_at l) k va _ w (walks m k va l (pages_is (Ok tt) 0 0) w is) _ t (filled (vm_at l) t) _ p refl (sym (judged_shut t k va b may off)) refl)) e
 
-pub ruleset grantings = (grant_reserved, grant_resident, grant_denied, grant_walks, grant_missing, grant_bus, grant_leaf, grant_shut)
+pub ruleset grantings = (grant_reserved, grant_resident, grant_denied, grant_walks, grant_fault, grant_leaf, grant_shut)
 
 -- ---- the page loop
 
@@ -313,12 +310,12 @@ module _ (m : Memory) (k : Access) (addr size : ℕ) (v₀ v v' : Vm) (page va n
   pub words_few : n ≤ 2 * page → n + x.reads ≤ 2 * (page + 1)
   words_few = reads_few m k addr size v₀ v page va n p (pages_as x v') is.0
 
-  pub words_denied : (y : Pages) (e : Exception) → x.verdict ≡ Denied e → y ≡ pages_is (Denied e) 0 (n + x.reads) → CheckedPages m k addr size v₀ y v'
+  pub words_denied : (y : Pages) (e : Exception) → x.verdict ≡ Err e → y ≡ pages_is (Err e) 0 (n + x.reads) → CheckedPages m k addr size v₀ y v'
   words_denied y e d q =
       (each_denied m k addr size v₀ v page va n p (pages_as x v') is.0 _ e d (ap (λ (z : Pages). pages_as z v') q), (λ a. absurd_eq (cc)), rw q)
 
-  module _ (last : ℕ) (end : last ≡ last_page addr size) (a : x.verdict ≡ Allowed) (h : page < 2 ^ 20) where
-    pub words_last : (y : Pages) → addr < 2 ^ 32 → va / 4096 ≡ page → page ≡ last → y ≡ pages_is Allowed x.ppn (n + x.reads) → CheckedPages m k addr size v₀ y v'
+  module _ (last : ℕ) (end : last ≡ last_page addr size) (a : x.verdict ≡ Ok tt) (h : page < 2 ^ 20) where
+    pub words_last : (y : Pages) → addr < 2 ^ 32 → va / 4096 ≡ page → page ≡ last → y ≡ pages_is (Ok tt) x.ppn (n + x.reads) → CheckedPages m k addr size v₀ y v'
     words_last y small here e q =
         let there : frame_of v' (page_addr (last_page addr size)) ≡ x.ppn = frame_same v' _ va (omega arith) ∙ is.1 a in (
           each_last m k addr size v₀ v page va n p (pages_as x v') is.0 last end a h _ e (ap (λ (z : Pages). pages_as z v') q),

@@ -1,5 +1,5 @@
 -- The ways through the check of one page, and the page loop. Assumes nothing.
-use Rattle.std.proofs.Common.{◌≡◌, ℕ, suc, ◌+◌, ◌-◌, ◌*◌, ◌/◌, ◌%◌, ◌^◌, ◌<◌, ◌≤◌, true, false, ◌∷◌, get_or, sym, ap, ◌∙◌, add-zero, add_assoc, arith, le-ltb, lt-ltb}
+use Rattle.std.proofs.Common.{◌≡◌, ℕ, suc, ◌+◌, ◌-◌, ◌*◌, ◌/◌, ◌%◌, ◌^◌, ◌<◌, ◌≤◌, true, false, ◌∷◌, get_or, sym, ap, ◌∙◌, add-zero, add_assoc, arith, le-ltb, lt-ltb, Option, Some, None, Result, Ok, Err}
 use Rattle.memory.specs.Memory.{Memory}
 use Rattle.mmu.specs.Tlb.{no_entry}
 use Rattle.mmu.specs.Vm.{filled, slot_of, frame_of}
@@ -7,57 +7,54 @@ use Rattle.mmu.specs.Walk.{walk_of}
 use Rattle.mmu.specs.Check.Laws.{page_reads, next_number}
 use Rattle.mmu.specs.Check.{page_addr, checked, faulted, judged, by_walk, by_slot, check_with, check_page, after_page, check_each, pages_after, last_page, pages_to, pages_of}
 use Rattle.mmu.specs.declared.tlb.TlbEntry.{TlbEntry}
-use Rattle.mmu.specs.declared.tlb.Slot.{Slot}
-use Rattle.mmu.specs.declared.tlb.Slot.TheVariants.{At, Nothing}
+use Rattle.mmu.specs.declared.walk.WalkFault.{WalkFault}
+use Rattle.mmu.specs.declared.walk.WalkFault.TheVariants as walked
 use Rattle.mmu.specs.declared.vm.Vm.{Vm}
-use Rattle.mmu.specs.declared.walk.Walked.TheVariants as walked
 use Rattle.mmu.specs.declared.walk.WalkAnswer.{WalkAnswer}
 use Rattle.mmu.specs.declared.exception.Access.{Access}
 use Rattle.mmu.specs.declared.exception.Exception.{Exception}
 use Rattle.mmu.specs.declared.exception.Exception.TheVariants.{BusError}
-use Rattle.mmu.specs.declared.check.Verdict.{Verdict}
-use Rattle.mmu.specs.declared.check.Verdict.TheVariants.{Allowed, Denied}
 use Rattle.mmu.specs.declared.check.Checked.{Checked}
 
 -- `check_walk`, where the walk answered w
 module _ (vm : Vm) (k : Access) (va : ℕ) (o w : WalkAnswer) (e : w ≡ o) (c : Checked) where
-  pub walk_leaf_lem : (x : TlbEntry) (after : Vm) (v : Verdict) → w.walked ≡ walked.Leaf x → after ≡ filled vm x → v ≡ judged x k va
-      → c ≡ checked after v w.reads → c ≡ by_slot vm k va o Nothing
+  pub walk_leaf_lem : (x : TlbEntry) (after : Vm) (v : Result (Unit {0}) Exception) → w.walked ≡ Ok x → after ≡ filled vm x → v ≡ judged x k va
+      → c ≡ checked after v w.reads → c ≡ by_slot vm k va o None
   unfolding by_slot by_walk
   walk_leaf_lem x after v p q j is = is ∙ rw (← e, p, q, j)
 
-  pub walk_missing : (v : Verdict) → w.walked ≡ walked.Missing → v ≡ faulted k false va → c ≡ checked vm v w.reads → c ≡ by_slot vm k va o Nothing
+  pub walk_missing : (f : WalkFault) (v : Result (Unit {0}) Exception) → w.walked ≡ Err f → f ≡ walked.Missing → v ≡ faulted k false va → c ≡ checked vm v w.reads → c ≡ by_slot vm k va o None
   unfolding by_slot by_walk
-  walk_missing v p q is = is ∙ rw (← e, p, q)
+  walk_missing f v p m q is = is ∙ rw (← e, p, m, q)
 
-  pub walk_bus : w.walked ≡ walked.BusError → c ≡ checked vm (Denied BusError) w.reads → c ≡ by_slot vm k va o Nothing
+  pub walk_bus : (f : WalkFault) → w.walked ≡ Err f → f ≡ walked.BusError → c ≡ checked vm (Err BusError) w.reads → c ≡ by_slot vm k va o None
   unfolding by_slot by_walk
-  walk_bus p is = is ∙ rw (← e, p)
+  walk_bus f p m is = is ∙ rw (← e, p, m)
 
 -- `check_page`
 module _ (m : Memory) (vm : Vm) (k : Access) (va : ℕ) (c : Checked) where
-  pub page_reserved : (v : Verdict) → 0xFFFF_0000 ≤ page_addr (va / 4096) → v ≡ faulted k true va → c ≡ checked vm v 0 → c ≡ check_page m vm k va
+  pub page_reserved : (v : Result (Unit {0}) Exception) → 0xFFFF_0000 ≤ page_addr (va / 4096) → v ≡ faulted k true va → c ≡ checked vm v 0 → c ≡ check_page m vm k va
   unfolding check_page check_with
   page_reserved v h q is = is ∙ rw (le-ltb _ _ h, q)
 
-  pub page_resident : (s : Slot) (i : ℕ) (v : Verdict) → page_addr (va / 4096) < 0xFFFF_0000 → s ≡ slot_of vm va → s ≡ At i
+  pub page_resident : (s : Option ℕ) (i : ℕ) (v : Result (Unit {0}) Exception) → page_addr (va / 4096) < 0xFFFF_0000 → s ≡ slot_of vm va → s ≡ Some i
       → v ≡ judged (get_or vm.tlb i no_entry) k va → c ≡ checked vm v 0 → c ≡ check_page m vm k va
   unfolding check_page check_with by_slot
   page_resident s i v h p q j is = is ∙ rw (lt-ltb _ _ h, ← p, q, j)
 
-  pub page_walked : (s : Slot) → page_addr (va / 4096) < 0xFFFF_0000 → s ≡ slot_of vm va → s ≡ Nothing
-      → c ≡ by_slot vm k va (walk_of m vm.ptbr va) Nothing → c ≡ check_page m vm k va
+  pub page_walked : (s : Option ℕ) → page_addr (va / 4096) < 0xFFFF_0000 → s ≡ slot_of vm va → s ≡ None
+      → c ≡ by_slot vm k va (walk_of m vm.ptbr va) None → c ≡ check_page m vm k va
   unfolding check_page check_with
   page_walked s h p q j = j ∙ rw (lt-ltb _ _ h, ← p, q)
 
 -- ---- where a page leads, where the search answered s
 
-module _ (vm : Vm) (va : ℕ) (s : Slot) (is : s ≡ slot_of vm va) where
-  pub resident_frame : (i : ℕ) → s ≡ At i → (get_or vm.tlb i no_entry).ppn ≡ frame_of vm va
+module _ (vm : Vm) (va : ℕ) (s : Option ℕ) (is : s ≡ slot_of vm va) where
+  pub resident_frame : (i : ℕ) → s ≡ Some i → (get_or vm.tlb i no_entry).ppn ≡ frame_of vm va
   unfolding frame_of
   resident_frame i e = rw (← is, e)
 
-  pub no_frame : s ≡ Nothing → 0 ≡ frame_of vm va
+  pub no_frame : s ≡ None → 0 ≡ frame_of vm va
   unfolding frame_of
   no_frame e = rw (← is, e)
 
@@ -86,12 +83,12 @@ module _ (m : Memory) (k : Access) (addr size : ℕ) (v₀ v : Vm) (page va n : 
   pub reads_few : n ≤ 2 * page → n + r.reads ≤ 2 * (page + 1)
   reads_few h = omega (arith, few)
 
-  pub each_denied : (c : Checked) (e : Exception) → r.verdict ≡ Denied e → c ≡ checked r.vm (Denied e) (n + r.reads) → c ≡ check_each m k v₀ (pages_of addr size)
+  pub each_denied : (c : Checked) (e : Exception) → r.verdict ≡ Err e → c ≡ checked r.vm (Err e) (n + r.reads) → c ≡ check_each m k v₀ (pages_of addr size)
   unfolding check_each after_page
   each_denied c e d so = so ∙ sym (p ∙ rw (← is, d))
 
-  module _ (last : ℕ) (end : last ≡ last_page addr size) (a : r.verdict ≡ Allowed) (h : page < 2 ^ 20) where
-    pub each_last : (c : Checked) → page ≡ last → c ≡ checked r.vm Allowed (n + r.reads) → c ≡ check_each m k v₀ (pages_of addr size)
+  module _ (last : ℕ) (end : last ≡ last_page addr size) (a : r.verdict ≡ Ok tt) (h : page < 2 ^ 20) where
+    pub each_last : (c : Checked) → page ≡ last → c ≡ checked r.vm (Ok tt) (n + r.reads) → c ≡ check_each m k v₀ (pages_of addr size)
     unfolding check_each after_page pages_after
     each_last c e so =
         let none : pages_to page (last_page addr size) ≡ 0 = omega arith in

@@ -1,17 +1,15 @@
 -- The search for a page's slot, as the loop makes it. Assumes nothing.
-use Rattle.std.proofs.Common.{◌≡◌, ℕ, ◌+◌, ◌<◌, ◌≤◌, true, false, List, length, get_or, drop, sym, ◌∙◌, add-one, drop_of_length-le, drop-cons, eq-eqb, ne_eqb}
+use Rattle.std.proofs.Common.{◌≡◌, ℕ, ◌+◌, ◌<◌, ◌≤◌, true, false, List, length, get_or, drop, sym, ◌∙◌, add-one, drop_of_length-le, drop-cons, eq-eqb, ne_eqb, Option, Some, None}
 use Rattle.common.specs.Cases.{and_false}
 use Rattle.mmu.specs.Tlb.{no_entry, matches, first_match}
 use Rattle.mmu.specs.declared.tlb.TlbEntry.{TlbEntry}
-use Rattle.mmu.specs.declared.tlb.Slot.{Slot}
-use Rattle.mmu.specs.declared.tlb.Slot.TheVariants.{At, Nothing}
 
-module _ (z : Slot) (vpn : ℕ) (l : List TlbEntry) (i : ℕ) (p : z ≡ first_match vpn i (drop i l)) where
-  pub none_left : length l ≤ i → Nothing ≡ z
+module _ (z : Option ℕ) (vpn : ℕ) (l : List TlbEntry) (i : ℕ) (p : z ≡ first_match vpn i (drop i l)) where
+  pub none_left : length l ≤ i → None ≡ z
   unfolding first_match
   none_left h = sym (p ∙ rw (drop_of_length-le l h))
 
-  pub found_here : i < length l → (get_or l i no_entry).valid ≡ true → (get_or l i no_entry).vpn ≡ vpn → At i ≡ z
+  pub found_here : i < length l → (get_or l i no_entry).valid ≡ true → (get_or l i no_entry).vpn ≡ vpn → Some i ≡ z
   unfolding first_match matches
   found_here h v e = sym (p ∙ rw (drop-cons l i no_entry h, v, eq-eqb (get_or l i no_entry).vpn vpn e))
 

@@ -10,14 +10,13 @@
 --   CheckedPages m k a n v r v' == the check of the pages of n bytes at a takes v to v' and answers r. Where it is allowed, r's frame is that of
 --                                  the last page, and so of an access that stays in its page
 --   CheckedPage, WalkedPage     == the same of one page, and of one that is not resident
---   grant_to p n, no_grant      == the answers of `grant_page`: the page leads to p, after n words read; or the access is not granted
+--   grant_to p n                == a grant of `grant_page`: the page leads to p, after n words read
 --   GrantedBy c va v r v'       == the check c of va's page, made in v, as a grant: where it denies, there is none and the state stays
 --   GrantsPage, GrantsWalk      == the same of a page's check, and of one that is not resident
---   slot_at i                   == a slot number as the search answers it: 16 is none
 --   with_entry v i e            == the same state with another entry in a slot
 --   with_registers v on p f     == the same TLB with other registers
 --   dropped_word p vpn w        == the valid word of an entry of page vpn, once page p is dropped
-use Rattle.std.specs.Prelude.{◌≡◌, ℕ, ◌+◌, ◌*◌, ◌%◌, ◌^◌, ◌<◌, ◌≤◌, Bool, true, false, cond, List, ◌==◌, nat_lt, slice_set}
+use Rattle.std.specs.Prelude.{◌≡◌, ℕ, ◌+◌, ◌*◌, ◌%◌, ◌^◌, ◌<◌, ◌≤◌, Bool, true, false, cond, List, ◌==◌, nat_lt, slice_set, Option, Some, None, Result, Ok, Err}
 use Rattle.layout.specs.Records.{records_of}
 use Rattle.layout.specs.Words.{part, word_at, on_at}
 use Rattle.memory.specs.Memory.{Memory}
@@ -25,14 +24,11 @@ use Rattle.mmu.specs.Check.{page_addr, checked, by_slot, check_page, check_each,
 use Rattle.mmu.specs.Vm.{with_tlb, slot_of, frame_of}
 use Rattle.mmu.specs.Walk.{walk_of}
 use Rattle.mmu.specs.declared.check.Checked.{Checked}
-use Rattle.mmu.specs.declared.check.Verdict.{Verdict}
-use Rattle.mmu.specs.declared.check.Verdict.TheVariants.{Allowed, Denied}
+use Rattle.mmu.specs.declared.exception.Exception.{Exception}
 use Rattle.mmu.specs.declared.exception.Access.{Access}
 use Rattle.mmu.specs.declared.exception.Exception.TheVariants.{BusError}
 use Rattle.mmu.specs.declared.flat.PageGrant.{PageGrant}
 use Rattle.mmu.specs.declared.flat.Pages.{Pages}
-use Rattle.mmu.specs.declared.tlb.Slot.{Slot}
-use Rattle.mmu.specs.declared.tlb.Slot.TheVariants.{At, Nothing}
 use Rattle.mmu.specs.declared.tlb.TlbEntry.{TlbEntry}
 use Rattle.mmu.specs.declared.vm.Vm.{Vm}
 pub mod Laws
@@ -64,63 +60,58 @@ vm_at l =
 
 -- ---- what the check promises
 
-abbrev pub pages_is : Verdict → ℕ → ℕ → Pages
+abbrev pub pages_is : Result (Unit {0}) Exception → ℕ → ℕ → Pages
 pages_is verdict ppn n = record { verdict = verdict; ppn = ppn; reads = n }
 
 abbrev pub no_pages : Pages
-no_pages = pages_is (Denied BusError) 0 0
+no_pages = pages_is (Err BusError) 0 0
 
 abbrev pub pages_as : Pages → Vm → Checked
 pages_as r v = checked v r.verdict r.reads
 
 -- a frame where the access is allowed
-abbrev pub frame_if : Verdict → ℕ → ℕ
-frame_if Allowed p = p
-frame_if (Denied e) p = 0
+abbrev pub frame_if : Result (Unit {0}) Exception → ℕ → ℕ
+frame_if (Ok tt) p = p
+frame_if (Err e) p = 0
 
 abbrev pub CheckedPages : Memory → Access → ℕ → ℕ → Vm → Pages → Vm → Type 0
 CheckedPages m k addr size v r v' =
     (pages_as r v' ≡ check_each m k v (pages_of addr size))
-    × (r.verdict ≡ Allowed → addr % 4096 + size ≤ 4096 → 0 < size → frame_of v' addr ≡ r.ppn)
+    × (r.verdict ≡ Ok tt → addr % 4096 + size ≤ 4096 → 0 < size → frame_of v' addr ≡ r.ppn)
     × (r.ppn ≡ frame_if r.verdict (frame_of v' (page_addr (last_page addr size))))
 
 abbrev pub CheckedPage : Memory → Access → ℕ → Vm → Pages → Vm → Type 0
-CheckedPage m k va v r v' = (pages_as r v' ≡ check_page m v k va) × (r.verdict ≡ Allowed → frame_of v' va ≡ r.ppn)
+CheckedPage m k va v r v' = (pages_as r v' ≡ check_page m v k va) × (r.verdict ≡ Ok tt → frame_of v' va ≡ r.ppn)
 
 abbrev pub WalkedPage : Memory → Access → ℕ → Vm → Pages → Vm → Type 0
 WalkedPage m k va v r v' =
-    slot_of v va ≡ Nothing → (pages_as r v' ≡ by_slot v k va (walk_of m v.ptbr va) Nothing) × (r.verdict ≡ Allowed → frame_of v' va ≡ r.ppn)
+    slot_of v va ≡ None → (pages_as r v' ≡ by_slot v k va (walk_of m v.ptbr va) None) × (r.verdict ≡ Ok tt → frame_of v' va ≡ r.ppn)
 
 -- ---- a grant
 
 abbrev pub grant_to : ℕ → ℕ → PageGrant
-grant_to ppn n = record { granted = true; ppn = ppn; reads = n }
+grant_to ppn n = record { ppn = ppn; reads = n }
 
-abbrev pub no_grant : PageGrant
-no_grant = record { granted = false; ppn = 0; reads = 0 }
-
-abbrev pub grant_if : Verdict → PageGrant → PageGrant
-grant_if Allowed g = g
-grant_if (Denied e) g = no_grant
+-- a grant where the access is allowed
+abbrev pub grant_if : Result (Unit {0}) Exception → PageGrant → Option PageGrant
+grant_if (Ok tt) g = Some g
+grant_if (Err e) g = None
 
 -- the state that a check leaves where it allows, else the one before it
-abbrev pub left_if : Verdict → Vm → Vm → Vm
-left_if Allowed after before = after
-left_if (Denied e) after before = before
+abbrev pub left_if : Result (Unit {0}) Exception → Vm → Vm → Vm
+left_if (Ok tt) after before = after
+left_if (Err e) after before = before
 
-abbrev pub GrantedBy : Checked → ℕ → Vm → PageGrant → Vm → Type 0
+abbrev pub GrantedBy : Checked → ℕ → Vm → Option PageGrant → Vm → Type 0
 GrantedBy c va v r v' = (r ≡ grant_if c.verdict (grant_to (frame_of c.vm va) c.reads)) × (v' ≡ left_if c.verdict c.vm v)
 
-abbrev pub GrantsPage : Memory → Access → ℕ → Vm → PageGrant → Vm → Type 0
+abbrev pub GrantsPage : Memory → Access → ℕ → Vm → Option PageGrant → Vm → Type 0
 GrantsPage m k va v r v' = GrantedBy (check_page m v k va) va v r v'
 
-abbrev pub GrantsWalk : Memory → Access → ℕ → Vm → PageGrant → Vm → Type 0
-GrantsWalk m k va v r v' = slot_of v va ≡ Nothing → GrantedBy (by_slot v k va (walk_of m v.ptbr va) Nothing) va v r v'
+abbrev pub GrantsWalk : Memory → Access → ℕ → Vm → Option PageGrant → Vm → Type 0
+GrantsWalk m k va v r v' = slot_of v va ≡ None → GrantedBy (by_slot v k va (walk_of m v.ptbr va) None) va v r v'
 
 -- ---- parts that change
-
-unfoldable pub slot_at : ℕ → Slot
-slot_at i = cond (nat_lt i 16) (At i) Nothing
 
 abbrev pub with_entry : Vm → ℕ → TlbEntry → Vm
 with_entry v i e = with_tlb v (slice_set v.tlb i e) v.next_victim

@@ -10,25 +10,23 @@
 -- Choices that a reader may question. A word that the walk does not follow opens nothing, whatever its bits say. A valid entry counts
 -- even where an earlier slot holds the same page: evicting that one exposes it. An entry opens nothing where its virtual page lies at or
 -- above 0xFFFF0000, since the check refuses that page before it looks. Bytes outside the map may be table bytes and may be open.
-use Rattle.std.specs.Prelude.{◌≡◌, ℕ, ◌/◌, ◌^◌, ◌<◌, true, length, slice_index_or}
+use Rattle.std.specs.Prelude.{◌≡◌, ℕ, ◌/◌, ◌^◌, ◌<◌, true, length, slice_index_or, Some, Ok}
 use Rattle.memory.specs.Memory.{Memory, read_at, word_spots}
-use Rattle.memory.specs.declared.Content.TheVariants.{Value}
 use Rattle.mmu.specs.Tlb.{no_entry}
 use Rattle.mmu.specs.Walk.{table_ok, word_of_table, walk_of}
 use Rattle.mmu.specs.Check.{page_addr, permits}
 use Rattle.mmu.specs.declared.tlb.TlbEntry.{TlbEntry}
 use Rattle.mmu.specs.declared.vm.Vm.{Vm}
-use Rattle.mmu.specs.declared.walk.Walked.TheVariants.{Leaf}
 use Rattle.mmu.specs.declared.exception.Access.{Access}
 pub mod Laws
 
 pub data TableByte (m : Memory) (ptbr a : ℕ) : Type 0 where
   level1 : a / 4096 ≡ ptbr / 4096 → TableByte m ptbr a
-  level2 : (i w : ℕ) → i < 1024 → read_at m (word_spots (word_of_table ptbr i)) ≡ Value w → table_ok w ≡ true → a / 4096 ≡ w / 4096 → TableByte m ptbr a
+  level2 : (i w : ℕ) → i < 1024 → read_at m (word_spots (word_of_table ptbr i)) ≡ Some w → table_ok w ≡ true → a / 4096 ≡ w / 4096 → TableByte m ptbr a
 
 pub data Usable (m : Memory) (vm : Vm) (e : TlbEntry) : Type 0 where
   resident : (i : ℕ) → i < length vm.tlb → slice_index_or vm.tlb i no_entry ≡ e → e.valid ≡ true → Usable m vm e
-  leaf : (va : ℕ) → va < 2 ^ 32 → (walk_of m vm.ptbr va).walked ≡ Leaf e → Usable m vm e
+  leaf : (va : ℕ) → va < 2 ^ 32 → (walk_of m vm.ptbr va).walked ≡ Ok e → Usable m vm e
 
 abbrev pub entry_frame : TlbEntry → ℕ
 entry_frame e = page_addr e.ppn / 4096

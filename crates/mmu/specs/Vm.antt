@@ -6,9 +6,7 @@
 --   invalidated vm va == the page of address va dropped: TLBINV
 --   slot_of vm va     == the slot of the TLB that answers for va's page: the first valid match
 --   frame_of vm va    == the physical page that va's page leads to, 0 where it is not resident
-use Rattle.std.specs.Prelude.{ℕ, ◌+◌, ◌/◌, ◌%◌, false, List, slice_index_or, slice_set}
-use Rattle.mmu.specs.declared.tlb.Slot.{Slot}
-use Rattle.mmu.specs.declared.tlb.Slot.TheVariants.{At, Nothing}
+use Rattle.std.specs.Prelude.{ℕ, ◌+◌, ◌/◌, ◌%◌, false, List, slice_index_or, slice_set, Option, Some, None}
 use Rattle.mmu.specs.declared.tlb.TlbEntry.{TlbEntry}
 use Rattle.mmu.specs.declared.vm.Vm.{Vm}
 use Rattle.mmu.specs.Tlb.{no_entry, no_entries, first_match, dropped_page}
@@ -35,13 +33,13 @@ unfoldable pub invalidated : Vm → ℕ → Vm
 invalidated vm va = with_tlb vm (dropped_page (va / 4096) vm.tlb) vm.next_victim
 
 -- "the first valid TLB match"
-abbrev pub slot_of : Vm → ℕ → Slot
+abbrev pub slot_of : Vm → ℕ → Option ℕ
 slot_of vm va = first_match (va / 4096) 0 vm.tlb
 
 -- the physical page of a slot
-abbrev pub slot_frame : List TlbEntry → Slot → ℕ
-slot_frame l (At i) = (slice_index_or l i no_entry).ppn
-slot_frame l Nothing = 0
+abbrev pub slot_frame : List TlbEntry → Option ℕ → ℕ
+slot_frame l (Some i) = (slice_index_or l i no_entry).ppn
+slot_frame l None = 0
 
 unfoldable pub frame_of : Vm → ℕ → ℕ
 frame_of vm va = slot_frame vm.tlb (slot_of vm va)

@@ -8,14 +8,12 @@
 --   walk_of m ptbr va == the walk for virtual address va
 --
 -- Of a table word bit 0 is V, 1 to 3 are R, W and X, 4 is U; 6 and 7 are reserved. The others are ignored.
-use Rattle.std.specs.Prelude.{ℕ, ◌+◌, ◌*◌, ◌/◌, ◌%◌, Bool, true, cond, not, ◌&&◌, ◌||◌, ◌==◌}
+use Rattle.std.specs.Prelude.{ℕ, ◌+◌, ◌*◌, ◌/◌, ◌%◌, Bool, true, cond, not, ◌&&◌, ◌||◌, ◌==◌, Option, Some, None, Result, Ok, Err}
 use Rattle.common.specs.Bits.{bit_set}
 use Rattle.memory.specs.Memory.{Memory, read_at, word_spots}
-use Rattle.memory.specs.declared.Content.{Content}
-use Rattle.memory.specs.declared.Content.TheVariants.{Value, Outside}
+use Rattle.mmu.specs.declared.walk.WalkFault.TheVariants.{Missing, BusError}
+use Rattle.mmu.specs.declared.walk.WalkFault.{WalkFault}
 use Rattle.mmu.specs.declared.tlb.TlbEntry.{TlbEntry}
-use Rattle.mmu.specs.declared.walk.Walked.{Walked}
-use Rattle.mmu.specs.declared.walk.Walked.TheVariants.{Leaf, Missing, BusError}
 use Rattle.mmu.specs.declared.walk.WalkAnswer.{WalkAnswer}
 pub mod Laws
 
@@ -47,18 +45,18 @@ unfoldable pub leaf_entry : ℕ → ℕ → TlbEntry
 leaf_entry va w = record { valid = true; vpn = va / 4096; ppn = w / 4096; flags = w / 2 % 16 * 2 }
 
 -- an answer after n words read
-abbrev pub answered : Walked → ℕ → WalkAnswer
+abbrev pub answered : Result TlbEntry WalkFault → ℕ → WalkAnswer
 answered walked n = record { walked = walked; reads = n }
 
 -- by the second word
-unfoldable pub walk_leaf : ℕ → Content → WalkAnswer
-walk_leaf va Outside = answered BusError 2
-walk_leaf va (Value w) = cond (leaf_ok w) (answered (Leaf (leaf_entry va w)) 2) (answered Missing 2)
+unfoldable pub walk_leaf : ℕ → Option ℕ → WalkAnswer
+walk_leaf va None = answered (Err BusError) 2
+walk_leaf va (Some w) = cond (leaf_ok w) (answered (Ok (leaf_entry va w)) 2) (answered (Err Missing) 2)
 
 -- by the first word
-unfoldable pub walk_table : Memory → ℕ → Content → WalkAnswer
-walk_table m va Outside = answered BusError 1
-walk_table m va (Value w) = cond (table_ok w) (walk_leaf va (read_at m (word_spots (spot2 w va)))) (answered Missing 1)
+unfoldable pub walk_table : Memory → ℕ → Option ℕ → WalkAnswer
+walk_table m va None = answered (Err BusError) 1
+walk_table m va (Some w) = cond (table_ok w) (walk_leaf va (read_at m (word_spots (spot2 w va)))) (answered (Err Missing) 1)
 
 unfoldable pub walk_of : Memory → ℕ → ℕ → WalkAnswer
 walk_of m ptbr va = walk_table m va (read_at m (word_spots (spot1 ptbr va)))

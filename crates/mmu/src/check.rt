@@ -5,27 +5,21 @@ ghost use Rattle.mmu.specs.Check.{permits, checked, faulted, judged, by_slot, ch
 ghost use Rattle.mmu.specs.Walk.{walk_of};
 
 use crate::exception::{Access, Exception, pte_bit};
-use crate::tlb::{Slot, TlbEntry};
+use crate::tlb::TlbEntry;
 use crate::vm::Vm;
-use crate::walk::{PTE_U, Walked, walk};
+use crate::walk::{PTE_U, WalkFault, walk};
 
 // User code can never touch vectors, IRQC or CPU state at or above this.
 pub const CPU_RESERVED_BASE: u32 = 0xFFFF_0000;
 
-#[derive(Clone, Copy)]
-pub enum Verdict {
-    Allowed,
-    Denied(Exception),
-}
-
 #[derive(Drop)]
 pub struct Checked {
     pub vm: Vm,
-    pub verdict: Verdict,
+    pub verdict: Result<(), Exception>,
     pub reads: u32,
 }
 
-fn found(vm: Vm, verdict: Verdict, reads: u32) -> Checked
+fn found(vm: Vm, verdict: Result<(), Exception>, reads: u32) -> Checked
     ensures { result ≡ checked vm verdict reads }
 {
     Checked { vm, verdict, reads }
@@ -43,21 +37,22 @@ pub(crate) fn grants(entry: TlbEntry, access: Access) -> bool
     entry.ppn << 12 < CPU_RESERVED_BASE
 }
 
-pub(crate) fn fault(access: Access, protection: bool, addr: u32) -> Verdict
+pub(crate) fn fault(access: Access, protection: bool, addr: u32) -> Result<(), Exception>
     ensures { result ≡ faulted access protection addr }
 {
-    Verdict::Denied(Exception::PageFault {
+    Err(Exception::PageFault {
         access,
         protection,
         addr,
     })
 }
 
-pub(crate) fn judge(entry: TlbEntry, access: Access, va: u32) -> Verdict
+#[tactic(auto, unfolding(crate::specs::Check::judged))]
+pub(crate) fn judge(entry: TlbEntry, access: Access, va: u32) -> Result<(), Exception>
     ensures { result ≡ judged entry access va }
 {
     if grants(entry, access) {
-        Verdict::Allowed
+        Ok(())
     } else {
         fault(access, true, va)
     }
@@ -75,35 +70,36 @@ impl Vm {
         }
         let slot = self.lookup(page);
         match slot {
-            Slot::At(i) => {
+            Some(i) => {
                 let entry = self.tlb[i];
                 found(self, judge(entry, access, va), 0)
             }
-            Slot::Nothing => self.check_walk(mem, base, va, access),
+            None => self.check_walk(mem, base, va, access),
         }
     }
 
     // A page that is not resident.
     fn check_walk(self, mem: &[u8], base: u32, va: u32, access: Access) -> Checked
-        ensures { result ≡ by_slot self access va (walk_of (lent base mem.now) self.ptbr va) Slot.Nothing }
+        ensures { result ≡ by_slot self access va (walk_of (lent base mem.now) self.ptbr va) None }
     {
         let answer = walk(mem, base, self.ptbr, va);
         let walked = answer.walked;
         match walked {
-            Walked::Leaf(entry) => {
+            Ok(entry) => {
                 let filled = self.fill(entry);
                 found(filled, judge(entry, access, va), answer.reads)
             }
-            Walked::Missing => found(self, fault(access, false, va), answer.reads),
-            Walked::BusError => found(self, Verdict::Denied(Exception::BusError), answer.reads),
+            Err(WalkFault::Missing) => found(self, fault(access, false, va), answer.reads),
+            Err(WalkFault::BusError) => found(self, Err(Exception::BusError), answer.reads),
         }
     }
 
-    // Each page that the access touches, in order; the first that denies it decides.
+    // Each page that the access touches, in order; the first that denies it decides. The loop leaves with the verdict and
+    // counts the pages itself: addresses wrap, so the last page can have a lower number than the first.
     pub fn check_pages(self, mem: &[u8], base: u32, addr: u32, size: u32, access: Access) -> Checked
         ensures { result ≡ check_each (lent base mem.now) access self (pages_of addr size) }
     {
-        let last = std::num::wrapping_add_u32(addr, std::num::wrapping_sub_u32(size, 1)) >> 12;
+        let last = addr.wrapping_add(size.wrapping_sub(1)) >> 12;
         let mut page = addr >> 12;
         let mut va = addr;
         let mut vm = self;
@@ -114,11 +110,11 @@ impl Vm {
             vm = after;
             reads += checked.reads;
             let here = checked.verdict;
-            if let Verdict::Denied(e) = here {
-                break found(vm, Verdict::Denied(e), reads);
+            if let Err(e) = here {
+                break found(vm, Err(e), reads);
             }
             if page == last {
-                break found(vm, Verdict::Allowed, reads);
+                break found(vm, Ok(()), reads);
             }
             page += 1;
             va = page << 12;

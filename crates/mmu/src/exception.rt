@@ -7,12 +7,12 @@ use crate::walk::{PTE_R, PTE_W, PTE_X};
 // Set in CAUSE for every exception; interrupts leave it clear.
 pub const CAUSE_EXCEPTION: u32 = 0x8000_0000;
 
-// The kind of a user's access.
+// The kind of a user's access. Its number is the bit of a region's FLAGS, and of CAUSE's detail.
 #[derive(Clone, Copy)]
 pub enum Access {
-    Read,
-    Write,
-    Fetch,
+    Read = 1,
+    Write = 2,
+    Fetch = 4,
 }
 
 #[derive(Clone, Copy)]
@@ -39,17 +39,14 @@ pub enum Vector {
     Syscall,
 }
 
-// The access as a number: the bit of a region's FLAGS, and of CAUSE's detail.
+// The access as a number.
 pub fn region_bit(access: Access) -> u32
     ensures { result ≡ region_bit access }
 {
-    match access {
-        Access::Read => 1,
-        Access::Write => 2,
-        Access::Fetch => 4,
-    }
+    access as u32
 }
 
+// The same as the bit of a leaf, where each has a name.
 pub fn pte_bit(access: Access) -> u32
     ensures { result ≡ 2 ^ access_bit access }
 {
@@ -68,6 +65,7 @@ fn with_code(code: u32, detail: u32) -> u32
 }
 
 impl Exception {
+    #[tactic(auto, unfolding(crate::specs::Exception::cause_of))]
     pub fn cause(self) -> u32
         ensures { result ≡ cause_of self }
     {
@@ -80,31 +78,20 @@ impl Exception {
             Exception::PageFault {
                 access,
                 protection,
-                addr: _,
-            } => {
-                let bit = region_bit(access);
-                if protection {
-                    with_code(6, bit + 8)
-                } else {
-                    with_code(6, bit)
-                }
-            }
+                ..
+            } => with_code(6, region_bit(access) + if protection { 8 } else { 0 }),
         }
     }
 
+    #[tactic(auto, unfolding(crate::specs::Exception::vector_of))]
     pub fn vector(self) -> Vector
         ensures { result ≡ vector_of self }
     {
         match self {
-            Exception::IllegalInstruction => Vector::Illegal,
-            Exception::PrivilegedInstruction => Vector::Illegal,
-            Exception::BusError => Vector::Bus,
-            Exception::ProtectionFault(_) => Vector::Bus,
-            Exception::PageFault {
-                access: _,
-                protection: _,
-                addr: _,
-            } => Vector::Bus,
+            Exception::IllegalInstruction | Exception::PrivilegedInstruction => Vector::Illegal,
+            Exception::BusError | Exception::ProtectionFault(_) | Exception::PageFault { .. } => {
+                Vector::Bus
+            }
             Exception::Syscall(_) => Vector::Syscall,
         }
     }

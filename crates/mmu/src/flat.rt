@@ -1,19 +1,20 @@
 // Extension V's state as 69 words that an owner lends: the enable bit, PTBR, VFAULT, the next victim's low and high half, and the TLB, four words an
 // entry: the valid bit, the virtual and the physical page, the flags. Of a bit's word the lowest counts.
 //
-// A function has the name of its twin by value. Words of another number are left as they are.
-ghost use Rattle.std.specs.Prelude.{◌≡◌, ◌+◌, ◌*◌, ◌/◌, ◌^◌, ◌<◌, ◌≤◌, length, slice_index_or};
-ghost use Rattle.layout.specs.Words.{bit_word, Over, Reads};
+// A function has the name of its twin by value: that one says what is meant and hands the state back, this one changes it where it stands. Words of
+// another number are left as they are.
+ghost use Rattle.std.specs.Prelude.{◌≡◌, ◌+◌, ◌*◌, ◌/◌, ◌^◌, ◌<◌, length, slice_index_or, None, IfSome};
+ghost use Rattle.layout.specs.Words.{Over, Reads};
 ghost use Rattle.memory.specs.Memory.{lent};
-ghost use Rattle.mmu.specs.Flat.{vm_words, no_pages, pages_is, CheckedPages, CheckedPage, WalkedPage, grant_to, no_grant, GrantsPage, GrantsWalk, vm_at, slot_at, with_entry, with_registers, dropped_word};
+ghost use Rattle.mmu.specs.Flat.{vm_words, no_pages, pages_is, CheckedPages, CheckedPage, WalkedPage, GrantsPage, GrantsWalk, vm_at, with_entry, with_registers, dropped_word};
 ghost use Rattle.mmu.specs.Tlb.{no_entry, first_match};
 ghost use Rattle.mmu.specs.Vm.{new_vm, filled, flushed, invalidated, frame_of, with_tlb};
 
-use crate::check::{CPU_RESERVED_BASE, Verdict, fault, grants, judge};
+use crate::check::{CPU_RESERVED_BASE, fault, grants, judge};
 use crate::exception::{Access, Exception};
 use crate::tlb::{TLB_ENTRIES, TlbEntry, empty};
 use crate::vm::Vm;
-use crate::walk::{Walked, walk};
+use crate::walk::{WalkFault, walk};
 
 pub const VM_WORDS: usize = 69;
 
@@ -41,13 +42,13 @@ const FLAGS: usize = 3;
 // What the check of an access's pages answers.
 #[derive(Drop)]
 pub struct Pages {
-    pub verdict: Verdict,
+    pub verdict: Result<(), Exception>,
     // The physical page of the access's last page, 0 where the access is denied.
     pub ppn: u32,
     pub reads: u32,
 }
 
-fn found(verdict: Verdict, ppn: u32, reads: u32) -> Pages
+fn found(verdict: Result<(), Exception>, ppn: u32, reads: u32) -> Pages
     ensures { result ≡ pages_is verdict ppn reads }
 {
     Pages {
@@ -55,12 +56,6 @@ fn found(verdict: Verdict, ppn: u32, reads: u32) -> Pages
         ppn,
         reads,
     }
-}
-
-fn bit(on: bool) -> u32
-    ensures { result ≡ bit_word on }
-{
-    if on { 1 } else { 0 }
 }
 
 // A number of two words.
@@ -71,8 +66,8 @@ fn wide(low: u32, high: u32) -> usize
 }
 
 // The entry in a slot.
-fn entry_at(vm: &[u32], slot: usize) -> TlbEntry
-    requires { (length vm.now ≡ vm_words) × (slot < 16) }
+fn entry_at(vm: &[u32; VM_WORDS], slot: usize) -> TlbEntry
+    requires { slot < 16 }
     ensures { result ≡ slice_index_or (vm_at vm.now).tlb slot no_entry }
 {
     let at = TLB + ENTRY * slot;
@@ -85,67 +80,55 @@ fn entry_at(vm: &[u32], slot: usize) -> TlbEntry
 }
 
 // The entry takes a slot.
-fn put_entry(vm: &mut [u32], slot: usize, entry: TlbEntry)
-    requires { (length vm.old ≡ vm_words) × (slot < 16) }
+fn put_entry(vm: &mut [u32; VM_WORDS], slot: usize, entry: TlbEntry)
+    requires { slot < 16 }
     ensures { vm_at vm.new ≡ with_entry (vm_at vm.old) slot entry }
 {
     let at = TLB + ENTRY * slot;
-    vm[at] = bit(entry.valid);
+    vm[at] = u32::from(entry.valid);
     vm[at + VPN] = entry.vpn;
     vm[at + PPN] = entry.ppn;
     vm[at + FLAGS] = entry.flags;
 }
 
-// The slot of a page's first valid entry, 16 where there is none. The loop's bound is the slice's own, so that the compiler keeps the function small
-// and makes it part of each caller, where the length is known.
-fn slot_of(vm: &[u32], vpn: u32) -> usize
-    requires { length vm.now ≡ vm_words }
-    ensures { (result ≤ 16) × (first_match vpn 0 (vm_at vm.now).tlb ≡ slot_at result) }
+// The slot of a page's first valid entry.
+fn slot_of(vm: &[u32; VM_WORDS], vpn: u32) -> Option<usize>
+    ensures found { result ≡ first_match vpn 0 (vm_at vm.now).tlb }
+    ensures few { IfSome result (λ i. i < 16) }
 {
-    let entries = (vm.len() - TLB) / ENTRY;
-    let mut i: usize = 0;
-    loop {
-        if i >= entries {
-            break TLB_ENTRIES;
-        }
+    for i in 0..TLB_ENTRIES {
         let at = TLB + ENTRY * i;
-        if vm[at + VPN] == vpn {
-            if vm[at] % 2 == 1 {
-                break i;
-            }
+        if vm[at + VPN] == vpn && vm[at] % 2 == 1 {
+            return Some(i);
         }
-        i += 1;
     }
+    None
 }
 
 // The physical page that a resident page leads to, 0 where none is.
 pub fn frame_of(vm: &[u32], va: u32) -> u32
     ensures { Reads vm_words vm.now result 0 (frame_of (vm_at vm.now) va) }
 {
-    if vm.len() != VM_WORDS {
+    let Some(vm) = vm.as_array::<VM_WORDS>() else {
         return 0;
+    };
+    match slot_of(vm, va >> 12) {
+        Some(slot) => entry_at(vm, slot).ppn,
+        None => 0,
     }
-    let slot = slot_of(vm, va >> 12);
-    if slot < TLB_ENTRIES {
-        return vm[TLB + ENTRY * slot + PPN];
-    }
-    0
 }
 
 // Sixteen entries, where they stand.
-fn put_tlb(words: &mut [u32], tlb: [TlbEntry; 16])
-    requires { length words.old ≡ vm_words }
+fn put_tlb(words: &mut [u32; VM_WORDS], tlb: [TlbEntry; 16])
     ensures { vm_at words.new ≡ with_tlb (vm_at words.old) tlb (vm_at words.old).next_victim }
 {
-    for i in 0..16 {
-        let entry = tlb[i];
-        put_entry(words, i, entry);
+    for (i, entry) in tlb.iter().enumerate() {
+        put_entry(words, i, *entry);
     }
 }
 
 // The slot that the next fill takes.
-fn put_victim(vm: &mut [u32], victim: usize)
-    requires { length vm.old ≡ vm_words }
+fn put_victim(vm: &mut [u32; VM_WORDS], victim: usize)
     ensures { vm_at vm.new ≡ with_tlb (vm_at vm.old) (vm_at vm.old).tlb victim }
 {
     vm[VICTIM] = (victim % 0x1_0000_0000) as u32;
@@ -156,9 +139,9 @@ fn put_victim(vm: &mut [u32], victim: usize)
 pub fn flush(vm: &mut [u32])
     ensures { Over vm_words vm.old vm.new result result (vm_at vm.new ≡ flushed (vm_at vm.old)) }
 {
-    if vm.len() != VM_WORDS {
+    let Some(vm) = vm.as_mut_array::<VM_WORDS>() else {
         return;
-    }
+    };
     put_tlb(vm, empty());
     put_victim(vm, 0);
 }
@@ -170,13 +153,13 @@ fn drop_word(valid: u32, vpn: u32, page: u32) -> u32
     if vpn == page { 0 } else { valid }
 }
 
-// Every entry of the page loses its valid mark and nothing else.
+// Every entry of the page loses its valid mark and nothing else. An entry is four words, so the loop goes over the slots.
 pub fn invalidate(vm: &mut [u32], va: u32)
     ensures { Over vm_words vm.old vm.new result result (vm_at vm.new ≡ invalidated (vm_at vm.old) va) }
 {
-    if vm.len() != VM_WORDS {
+    let Some(vm) = vm.as_mut_array::<VM_WORDS>() else {
         return;
-    }
+    };
     let page = va >> 12;
     for i in 0..16 {
         let at = TLB + ENTRY * i;
@@ -184,11 +167,10 @@ pub fn invalidate(vm: &mut [u32], va: u32)
     }
 }
 
-fn put_registers(words: &mut [u32], enabled: bool, ptbr: u32, vfault: u32)
-    requires { length words.old ≡ vm_words }
+fn put_registers(words: &mut [u32; VM_WORDS], enabled: bool, ptbr: u32, vfault: u32)
     ensures { vm_at words.new ≡ with_registers (vm_at words.old) enabled ptbr vfault }
 {
-    words[ENABLED] = bit(enabled);
+    words[ENABLED] = u32::from(enabled);
     words[PTBR] = ptbr;
     words[VFAULT] = vfault;
 }
@@ -197,22 +179,21 @@ fn put_registers(words: &mut [u32], enabled: bool, ptbr: u32, vfault: u32)
 pub fn pack(words: &mut [u32], vm: Vm)
     ensures { Over vm_words words.old words.new result result (vm_at words.new ≡ vm) }
 {
-    if words.len() != VM_WORDS {
+    let Some(words) = words.as_mut_array::<VM_WORDS>() else {
         return;
-    }
+    };
     let tlb = vm.tlb;
     put_tlb(words, tlb);
     put_victim(words, vm.next_victim);
     put_registers(words, vm.enabled, vm.ptbr, vm.vfault);
 }
 
-fn tlb_at(words: &[u32]) -> [TlbEntry; 16]
-    requires { length words.now ≡ vm_words }
+fn tlb_at(words: &[u32; VM_WORDS]) -> [TlbEntry; 16]
     ensures { result ≡ (vm_at words.now).tlb }
 {
     let mut tlb = empty();
-    for i in 0..16 {
-        tlb[i] = entry_at(words, i);
+    for (i, entry) in tlb.iter_mut().enumerate() {
+        *entry = entry_at(words, i);
     }
     tlb
 }
@@ -221,9 +202,9 @@ fn tlb_at(words: &[u32]) -> [TlbEntry; 16]
 pub fn unpack(words: &[u32]) -> Vm
     ensures { Reads vm_words words.now result new_vm (vm_at words.now) }
 {
-    if words.len() != VM_WORDS {
+    let Some(words) = words.as_array::<VM_WORDS>() else {
         return Vm::new();
-    }
+    };
     let tlb = tlb_at(words);
     Vm {
         enabled: words[ENABLED] % 2 == 1,
@@ -235,8 +216,7 @@ pub fn unpack(words: &[u32]) -> Vm
 }
 
 // The victim's slot is taken even where another is free.
-fn fill(vm: &mut [u32], entry: TlbEntry)
-    requires { length vm.old ≡ vm_words }
+fn fill(vm: &mut [u32; VM_WORDS], entry: TlbEntry)
     ensures { vm_at vm.new ≡ filled (vm_at vm.old) entry }
 {
     let slot = (vm[VICTIM] % 16) as usize;
@@ -245,40 +225,37 @@ fn fill(vm: &mut [u32], entry: TlbEntry)
 }
 
 // A page that is not resident.
-fn check_walk(vm: &mut [u32], mem: &[u8], base: u32, va: u32, access: Access) -> Pages
-    requires { length vm.old ≡ vm_words }
+fn check_walk(vm: &mut [u32; VM_WORDS], mem: &[u8], base: u32, va: u32, access: Access) -> Pages
     ensures { WalkedPage (lent base mem.now) access va (vm_at vm.old) result (vm_at vm.new) }
 {
     let answer = walk(mem, base, vm[PTBR], va);
     let walked = answer.walked;
     match walked {
-        Walked::Leaf(entry) => {
+        Ok(entry) => {
             fill(vm, entry);
             found(judge(entry, access, va), entry.ppn, answer.reads)
         }
-        Walked::Missing => found(fault(access, false, va), 0, answer.reads),
-        Walked::BusError => found(Verdict::Denied(Exception::BusError), 0, answer.reads),
+        Err(WalkFault::Missing) => found(fault(access, false, va), 0, answer.reads),
+        Err(WalkFault::BusError) => found(Err(Exception::BusError), 0, answer.reads),
     }
 }
 
 // One page of an access, of which `va` is the first address that is wanted.
-fn check_page(vm: &mut [u32], mem: &[u8], base: u32, va: u32, access: Access) -> Pages
-    requires { length vm.old ≡ vm_words }
+fn check_page(vm: &mut [u32; VM_WORDS], mem: &[u8], base: u32, va: u32, access: Access) -> Pages
     ensures { CheckedPage (lent base mem.now) access va (vm_at vm.old) result (vm_at vm.new) }
 {
     let page = va >> 12;
     if page << 12 >= CPU_RESERVED_BASE {
         return found(fault(access, true, va), 0, 0);
     }
-    let slot = slot_of(vm, page);
-    if slot < TLB_ENTRIES {
-        let entry = entry_at(vm, slot);
-        return found(judge(entry, access, va), entry.ppn, 0);
-    }
-    check_walk(vm, mem, base, va, access)
+    let Some(slot) = slot_of(vm, page) else {
+        return check_walk(vm, mem, base, va, access);
+    };
+    let entry = entry_at(vm, slot);
+    found(judge(entry, access, va), entry.ppn, 0)
 }
 
-// Each page that the access touches, in order; the first that denies it decides.
+// Each page that the access touches, in order; the first that denies it decides. As by value, the loop counts the pages itself.
 pub fn check_pages(
     vm: &mut [u32],
     mem: &[u8],
@@ -289,10 +266,10 @@ pub fn check_pages(
 ) -> Pages
     ensures { Over vm_words vm.old vm.new result no_pages (CheckedPages (lent base mem.now) access addr size (vm_at vm.old) result (vm_at vm.new)) }
 {
-    if vm.len() != VM_WORDS {
-        return found(Verdict::Denied(Exception::BusError), 0, 0);
-    }
-    let last = std::num::wrapping_add_u32(addr, std::num::wrapping_sub_u32(size, 1)) >> 12;
+    let Some(vm) = vm.as_mut_array::<VM_WORDS>() else {
+        return found(Err(Exception::BusError), 0, 0);
+    };
+    let last = addr.wrapping_add(size.wrapping_sub(1)) >> 12;
     let mut page = addr >> 12;
     let mut va = addr;
     let mut reads: u32 = 0;
@@ -300,85 +277,78 @@ pub fn check_pages(
         let here = check_page(vm, mem, base, va, access);
         reads += here.reads;
         let verdict = here.verdict;
-        if let Verdict::Denied(e) = verdict {
-            break found(Verdict::Denied(e), 0, reads);
+        if let Err(e) = verdict {
+            break found(Err(e), 0, reads);
         }
         if page == last {
-            break found(Verdict::Allowed, here.ppn, reads);
+            break found(Ok(()), here.ppn, reads);
         }
         page += 1;
         va = page << 12;
     }
 }
 
-// Whether a page is open to an access, and where it then leads.
-#[derive(Drop)]
+// Where a page that is open to an access leads, and the table words read.
+#[derive(Clone, Copy)]
 pub struct PageGrant {
-    pub granted: bool,
-    // The physical page, and the table words read; 0 where the access is not granted.
     pub ppn: u32,
     pub reads: u32,
 }
 
-fn grant(ppn: u32, reads: u32) -> PageGrant
-    ensures { result ≡ grant_to ppn reads }
-{
-    PageGrant {
-        granted: true,
-        ppn,
-        reads,
-    }
-}
-
-fn no_grant() -> PageGrant
-    ensures { result ≡ no_grant }
-{
-    PageGrant {
-        granted: false,
-        ppn: 0,
-        reads: 0,
-    }
-}
-
 // A page that is not resident. A leaf that does not grant the access is left to the check, which fills and says why.
-fn grant_walk(vm: &mut [u32], mem: &[u8], base: u32, va: u32, access: Access) -> PageGrant
-    requires { length vm.old ≡ vm_words }
+fn grant_walk(
+    vm: &mut [u32; VM_WORDS],
+    mem: &[u8],
+    base: u32,
+    va: u32,
+    access: Access,
+) -> Option<PageGrant>
     ensures { GrantsWalk (lent base mem.now) access va (vm_at vm.old) result (vm_at vm.new) }
 {
     let answer = walk(mem, base, vm[PTBR], va);
     let walked = answer.walked;
     match walked {
-        Walked::Leaf(leaf) => {
+        Ok(leaf) => {
             if grants(leaf, access) {
                 fill(vm, leaf);
-                return grant(leaf.ppn, answer.reads);
+                return Some(PageGrant {
+                    ppn: leaf.ppn,
+                    reads: answer.reads,
+                });
             }
-            no_grant()
+            None
         }
-        Walked::Missing => no_grant(),
-        Walked::BusError => no_grant(),
+        Err(_) => None,
     }
 }
 
 // The check of one page for an access that it allows. Where it would deny nothing is done: the check is then to be asked. Its answer has no
 // exception in it, so that the compiler keeps it in registers.
-pub fn grant_page(vm: &mut [u32], mem: &[u8], base: u32, va: u32, access: Access) -> PageGrant
-    ensures { Over vm_words vm.old vm.new result no_grant (GrantsPage (lent base mem.now) access va (vm_at vm.old) result (vm_at vm.new)) }
+pub fn grant_page(
+    vm: &mut [u32],
+    mem: &[u8],
+    base: u32,
+    va: u32,
+    access: Access,
+) -> Option<PageGrant>
+    ensures { Over vm_words vm.old vm.new result None (GrantsPage (lent base mem.now) access va (vm_at vm.old) result (vm_at vm.new)) }
 {
-    if vm.len() != VM_WORDS {
-        return no_grant();
-    }
+    let Some(vm) = vm.as_mut_array::<VM_WORDS>() else {
+        return None;
+    };
     let page = va >> 12;
     if page << 12 >= CPU_RESERVED_BASE {
-        return no_grant();
+        return None;
     }
-    let slot = slot_of(vm, page);
-    if slot < TLB_ENTRIES {
-        let entry = entry_at(vm, slot);
-        if grants(entry, access) {
-            return grant(entry.ppn, 0);
-        }
-        return no_grant();
+    let Some(slot) = slot_of(vm, page) else {
+        return grant_walk(vm, mem, base, va, access);
+    };
+    let entry = entry_at(vm, slot);
+    if grants(entry, access) {
+        return Some(PageGrant {
+            ppn: entry.ppn,
+            reads: 0,
+        });
     }
-    grant_walk(vm, mem, base, va, access)
+    None
 }

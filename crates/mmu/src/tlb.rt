@@ -14,67 +14,44 @@ pub struct TlbEntry {
     pub flags: u32,
 }
 
-// Where a search ended.
-#[derive(Drop)]
-pub enum Slot {
-    At(usize),
-    Nothing,
-}
-
 // The first valid entry of the page.
-pub fn lookup(tlb: [TlbEntry; 16], vpn: u32) -> Slot
+pub fn lookup(tlb: [TlbEntry; 16], vpn: u32) -> Option<usize>
     ensures { result ≡ first_match vpn 0 tlb }
 {
-    let mut i: usize = 0;
-    loop {
-        if i >= TLB_ENTRIES {
-            break Slot::Nothing;
+    for (i, entry) in tlb.iter().enumerate() {
+        if entry.valid && entry.vpn == vpn {
+            return Some(i);
         }
-        let entry = tlb[i];
-        if entry.valid {
-            if entry.vpn == vpn {
-                break Slot::At(i);
-            }
-        }
-        i += 1;
     }
+    None
 }
 
 // The entry takes the slot, whatever stood there; a slot number is read modulo 16.
-pub fn fill(tlb: [TlbEntry; 16], slot: usize, entry: TlbEntry) -> [TlbEntry; 16]
+pub fn fill(mut tlb: [TlbEntry; 16], slot: usize, entry: TlbEntry) -> [TlbEntry; 16]
     ensures { result ≡ slice_set tlb (slot % 16) entry }
 {
-    let at = slot % TLB_ENTRIES;
-    let mut filled = tlb;
-    filled[at] = entry;
-    filled
+    tlb[slot % TLB_ENTRIES] = entry;
+    tlb
 }
 
-fn drop_mark(entry: TlbEntry, vpn: u32) -> TlbEntry
+#[tactic(auto, unfolding(crate::specs::Tlb::dropped))]
+fn drop_mark(mut entry: TlbEntry, vpn: u32) -> TlbEntry
     ensures { result ≡ dropped vpn entry }
 {
     if entry.vpn == vpn {
-        TlbEntry {
-            valid: false,
-            vpn: entry.vpn,
-            ppn: entry.ppn,
-            flags: entry.flags,
-        }
-    } else {
-        entry
+        entry.valid = false;
     }
+    entry
 }
 
 // Every entry of the page loses its valid mark and nothing else.
-pub fn invalidate(tlb: [TlbEntry; 16], vpn: u32) -> [TlbEntry; 16]
+pub fn invalidate(mut tlb: [TlbEntry; 16], vpn: u32) -> [TlbEntry; 16]
     ensures { result ≡ dropped_page vpn tlb }
 {
-    let mut left = tlb;
-    for i in 0..16 {
-        let entry = left[i];
-        left[i] = drop_mark(entry, vpn);
+    for entry in tlb.iter_mut() {
+        *entry = drop_mark(*entry, vpn);
     }
-    left
+    tlb
 }
 
 fn no_entry() -> TlbEntry
@@ -89,6 +66,7 @@ fn no_entry() -> TlbEntry
 }
 
 // Sixteen entries of zeros.
+#[tactic(auto, unfolding(crate::specs::Tlb::no_entries))]
 pub fn empty() -> [TlbEntry; 16]
     ensures { result ≡ no_entries }
 {
@@ -96,12 +74,8 @@ pub fn empty() -> [TlbEntry; 16]
 }
 
 // Every entry becomes one of zeros.
-pub fn flush(tlb: [TlbEntry; 16]) -> [TlbEntry; 16]
+pub fn flush(_tlb: [TlbEntry; 16]) -> [TlbEntry; 16]
     ensures { result ≡ no_entries }
 {
-    let mut left = tlb;
-    for i in 0..16 {
-        left[i] = no_entry();
-    }
-    left
+    empty()
 }

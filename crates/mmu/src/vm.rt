@@ -4,7 +4,7 @@ ghost use Rattle.mmu.specs.Tlb.{first_match};
 ghost use Rattle.mmu.specs.Vm.{new_vm, filled, flushed, invalidated, frame_of};
 
 use crate::tlb;
-use crate::tlb::{Slot, TLB_ENTRIES, TlbEntry};
+use crate::tlb::{TLB_ENTRIES, TlbEntry};
 
 #[repr(C)]
 #[derive(Clone, Copy)]
@@ -31,6 +31,7 @@ impl Vm {
         }
     }
 
+    #[tactic(auto, unfolding(crate::specs::Vm::flushed))]
     pub fn flush(mut self) -> Self
         ensures { result ≡ flushed self }
     {
@@ -41,6 +42,7 @@ impl Vm {
         self
     }
 
+    #[tactic(auto, unfolding(crate::specs::Vm::invalidated))]
     pub fn invalidate(mut self, va: u32) -> Self
         ensures { result ≡ invalidated self va }
     {
@@ -50,7 +52,7 @@ impl Vm {
         self
     }
 
-    pub fn lookup(self, vpn: u32) -> Slot
+    pub fn lookup(self, vpn: u32) -> Option<usize>
         ensures { result ≡ first_match vpn 0 self.tlb }
     {
         let entries = self.tlb;
@@ -63,12 +65,13 @@ impl Vm {
     {
         let slot = self.lookup(va >> 12);
         match slot {
-            Slot::At(i) => self.tlb[i].ppn,
-            Slot::Nothing => 0,
+            Some(i) => self.tlb[i].ppn,
+            None => 0,
         }
     }
 
     // The victim's slot is taken even where another is free.
+    #[tactic(auto, unfolding(crate::specs::Vm::filled))]
     pub fn fill(mut self, entry: TlbEntry) -> Self
         ensures { result ≡ filled self entry }
     {

@@ -4,7 +4,7 @@ ghost use Rattle.memory.specs.Memory.{lent, read_at, word_spots};
 ghost use Rattle.mmu.specs.Walk.{table_ok, leaf_ok, leaf_entry, spot2, answered, walk_leaf, walk_of};
 
 use crate::tlb::TlbEntry;
-use memory::{Content, read_word};
+use memory::read_word;
 
 // The bits of a table word. An entry's flags are the leaf's R, W, X and U.
 pub const PTE_V: u32 = 1;
@@ -23,10 +23,9 @@ const PTE_RWX: u32 = 0x0E;
 
 const PAGE_SIZE: u32 = 4096;
 
-// What a walk leads to.
-#[derive(Drop)]
-pub enum Walked {
-    Leaf(TlbEntry),
+// Why a walk led to no leaf.
+#[derive(Clone, Copy)]
+pub enum WalkFault {
     // No valid leaf: not valid, malformed, or a huge page.
     Missing,
     // A word that could not be read.
@@ -35,12 +34,12 @@ pub enum Walked {
 
 #[derive(Drop)]
 pub struct WalkAnswer {
-    pub walked: Walked,
+    pub walked: Result<TlbEntry, WalkFault>,
     // Words read, one that could not be read included.
     pub reads: u32,
 }
 
-fn answered(walked: Walked, reads: u32) -> WalkAnswer
+fn answered(walked: Result<TlbEntry, WalkFault>, reads: u32) -> WalkAnswer
     ensures { result ≡ answered walked reads }
 {
     WalkAnswer { walked, reads }
@@ -89,21 +88,23 @@ fn leaf_entry(va: u32, l2: u32) -> TlbEntry
     }
 }
 
+#[tactic(auto, unfolding(crate::specs::Walk::walk_of, crate::specs::Walk::walk_table))]
 pub fn walk(mem: &[u8], base: u32, ptbr: u32, va: u32) -> WalkAnswer
     ensures { result ≡ walk_of (lent base mem.now) ptbr va }
 {
     let first = read_word(mem, base, ptbr / PAGE_SIZE * PAGE_SIZE + (va >> 22) * 4);
-    let Content::Value(l1) = first else {
-        return answered(Walked::BusError, 1);
+    let Some(l1) = first else {
+        return answered(Err(WalkFault::BusError), 1);
     };
     if table_ok(l1) {
         walk_leaf(mem, base, l1, va)
     } else {
-        answered(Walked::Missing, 1)
+        answered(Err(WalkFault::Missing), 1)
     }
 }
 
 // The second word, in the table that the first one names.
+#[tactic(auto, unfolding(crate::specs::Walk::walk_leaf))]
 fn walk_leaf(mem: &[u8], base: u32, l1: u32, va: u32) -> WalkAnswer
     ensures { result ≡ walk_leaf va (read_at (lent base mem.now) (word_spots (spot2 l1 va))) }
 {
@@ -112,12 +113,12 @@ fn walk_leaf(mem: &[u8], base: u32, l1: u32, va: u32) -> WalkAnswer
         base,
         l1 / PAGE_SIZE * PAGE_SIZE + (va >> 12) % 1024 * 4,
     );
-    let Content::Value(l2) = second else {
-        return answered(Walked::BusError, 2);
+    let Some(l2) = second else {
+        return answered(Err(WalkFault::BusError), 2);
     };
     if leaf_ok(l2) {
-        answered(Walked::Leaf(leaf_entry(va, l2)), 2)
+        answered(Ok(leaf_entry(va, l2)), 2)
     } else {
-        answered(Walked::Missing, 2)
+        answered(Err(WalkFault::Missing), 2)
     }
 }

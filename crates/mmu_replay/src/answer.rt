@@ -1,83 +1,43 @@
-// What one operation answers, as the line shows it.
-use mmu::check::{Checked, Verdict};
+// What one operation answers, and its text.
 use mmu::exception::Exception;
-use mmu::tlb::TlbEntry;
-use mmu::vm::Vm;
+use std::fmt;
+use std::fmt::{Display, Formatter};
 
 #[derive(Clone, Copy)]
-pub struct Answer {
-    pub vm: Vm,
-    pub letter: u8,
-    pub value: u32,
-    pub addr: u32,
-    pub reads: u32,
-}
-
-// Added to a translation's flags if the TLB has it.
-const IN_TLB: u32 = 0x100;
-
-fn lettered(vm: Vm, letter: u8, value: u32, addr: u32) -> Answer {
-    Answer {
-        vm,
-        letter,
-        value,
-        addr,
-        reads: 0,
-    }
-}
-
-pub fn nothing(vm: Vm) -> Answer {
-    lettered(vm, b'-', 0, 0)
-}
-
-pub fn unmapped(vm: Vm) -> Answer {
-    lettered(vm, b'U', 0, 0)
-}
-
-pub fn bus_error(vm: Vm) -> Answer {
-    lettered(vm, b'E', 0, 0)
-}
-
-pub fn mapped(vm: Vm, entry: TlbEntry, va: u32, resident: bool) -> Answer {
-    let physical = (entry.ppn << 12) | (va % 4096);
-    if resident {
-        lettered(vm, b'M', physical, entry.flags | IN_TLB)
-    } else {
-        lettered(vm, b'M', physical, entry.flags)
-    }
+pub enum Answer {
+    Nothing,
+    Allowed { reads: u32 },
+    Denied { exception: Exception, reads: u32 },
+    Mapped { physical: u32, flags: u32 },
+    Unmapped,
+    BusError,
 }
 
 // The address that a page fault carries, else 0.
-fn fault_address(e: Exception) -> u32 {
-    if let Exception::PageFault {
-        access: _,
-        protection: _,
-        addr,
-    } = e
-    {
-        addr
-    } else {
-        0
+fn fault_address(exception: Exception) -> u32 {
+    match exception {
+        Exception::PageFault {
+            access: _,
+            protection: _,
+            addr,
+        } => addr,
+        _ => 0,
     }
 }
 
-pub fn checked(c: Checked) -> Answer {
-    let vm = c.vm;
-    let verdict = c.verdict;
-    match verdict {
-        Verdict::Allowed => Answer {
-            vm,
-            letter: b'A',
-            value: 0,
-            addr: 0,
-            reads: c.reads,
-        },
-        Verdict::Denied(e) => Answer {
-            vm,
-            letter: b'X',
-            value: e.cause(),
-            addr: fault_address(e),
-            reads: c.reads,
-        },
+// A letter, two numbers, and the words that a check's walks read.
+impl Display for Answer {
+    fn fmt<W: fmt::Write>(&self, f: &mut Formatter<W>) -> fmt::Result {
+        let (letter, value, addr, reads) = match *self {
+            Answer::Nothing => ('-', 0, 0, 0),
+            Answer::Allowed { reads } => ('A', 0, 0, reads),
+            Answer::Denied { exception, reads } => {
+                ('X', exception.cause(), fault_address(exception), reads)
+            }
+            Answer::Mapped { physical, flags } => ('M', physical, flags, 0),
+            Answer::Unmapped => ('U', 0, 0, 0),
+            Answer::BusError => ('E', 0, 0, 0),
+        };
+        write!(f, "{letter} {value:08X} {addr:08X} {reads}")
     }
 }

@@ -8,54 +8,32 @@
 #![tactic(auto)]
 
 mod answer;
-mod line;
-mod operate;
+mod replay;
 
-use input::read_full;
-use mmu::vm::Vm;
-use script::header::{Header, Script, copy_image, event_place, header_of};
+use replay::Replay;
+use script::event_at;
+use script::header::{copy_image, event_place, header_of};
 use std::io;
-use std::io::Write;
+use std::io::{Read, Write};
 
-// The state at the start: user mode's, with translation on.
-fn start(ptbr: u32) -> Vm {
-    let mut vm = Vm::new();
-    vm.enabled = true;
-    vm.ptbr = ptbr;
-    vm
-}
+// What is read of the input, more than the longest script has; the rest is left.
+const INPUT_MAX: u64 = 65536;
 
-// The memory, as long as the image, becomes the image; then each event in order.
-fn replay<W: Write>(to: &mut W, script: &[u8], h: Header, mem: &mut [u8]) -> io::Result<()> {
-    copy_image(script, h.image_at as usize, mem);
-    let mut vm = start(h.penalty);
-    let mut k: u32 = 0;
-    while k < h.events {
-        let e = script::event_at(script, event_place(h, k));
-        let answer = operate::step(vm, mem, h.base, e);
-        line::show(to, answer)?;
-        let next = answer.vm;
-        vm = next;
-        k += 1;
-    }
-    Ok(())
-}
-
-fn empty_memory() -> [u8; 32768] {
-    [0u8; 32768]
-}
-
+// The memory, as long as the image, becomes the image; then each event in order. Nothing is written where the input is refused.
 fn main(rt: HostRuntime) -> io::Result<()> {
-    let mut input = [0u8; 65536];
-    let n = read_full(&mut rt.stdin(), &mut input)?;
-    let read = header_of(&input[..n]);
-    let Script::Good(h) = read else {
+    let mut input = Vec::new(rt.alloc());
+    rt.stdin().take(INPUT_MAX).read_to_end(&mut input)?;
+    let Ok(h) = header_of(&input) else {
         return Ok(());
     };
-    let length = h.image as usize;
-    if length <= 32768 {
-        let mut mem = empty_memory();
-        return replay(&mut rt.stdout(), &input[..n], h, &mut mem[..length]);
+    let mut mem = vec![in rt.alloc(); 0u8; h.image as usize]?;
+    copy_image(&input, h.image_at as usize, &mut mem);
+    let mut out = rt.stdout();
+    let mut replay = Replay::new(h.base, h.penalty);
+    for k in 0..h.events {
+        let answer = replay.step(&mut mem, event_at(&input, event_place(h, k)));
+        let victim = replay.vm.next_victim;
+        writeln!(out, "{answer} {victim} {:08X}", replay.tlb_digest())?;
     }
     Ok(())
 }

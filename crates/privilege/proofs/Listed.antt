@@ -1,6 +1,6 @@
 -- Register numbers: those that are listed, those that are not, and what each reads and writes. Assumes nothing.
-use Rattle.std.proofs.Common.{◌≡◌, ℕ, zero, suc, ◌+◌, ◌-◌, ◌*◌, ◌/◌, ◌%◌, ◌<◌, Bool, true, false, cond, ◌&&◌, ◌||◌, eqb, ltb, leb, List, get_or, set, sym, refl, ◌∙◌, ⊎_elim, arith, ltb-false, ltb-true, lt-ltb, le-leb, leb-false, leb-true}
-use borrow.Author.Tests.{eqb-false}
+use Rattle.std.proofs.Common.{◌≡◌, ℕ, zero, suc, ◌+◌, ◌-◌, ◌*◌, ◌/◌, ◌%◌, ◌<◌, Bool, true, false, cond, ◌&&◌, ◌||◌, eqb, ltb, leb, List, get_or, set, sym, refl, ◌∙◌, ⊎_elim, arith, ltb-false, ltb-true, lt-ltb, le-leb, leb-false, leb-true, Some, None, Result, Ok, Err}
+use Rattle.std.proofs.lemmas.Bool.{eqb-false}
 use Rattle.common.specs.Cases.{bool_is, cond_holds, absurd_eq, and_left, and_right}
 use Rattle.common.specs.declared.Refusal.{Refusal}
 use Rattle.common.specs.declared.Refusal.TheVariants.{Register}
@@ -9,10 +9,6 @@ use Rattle.privilege.specs.Region.{field_of, with_field}
 use Rattle.privilege.specs.Registers.{region_field, user_read, user_written, written, sr_read, sr_written}
 use Rattle.privilege.specs.State.{no_region, bit_if, status_of, with_other, with_regions}
 use Rattle.privilege.specs.declared.state.SystemState.{SystemState}
-use Rattle.privilege.specs.declared.registers.RegionField.TheVariants.{At, Nothing}
-use Rattle.privilege.specs.declared.registers.SrRead.{SrRead}
-use Rattle.privilege.specs.declared.registers.SrRead.TheVariants as read
-use Rattle.privilege.specs.declared.registers.SrAnswer.TheVariants as answer
 use Rattle.privilege.specs.declared.registers.SrWritten.{SrWritten}
 use Rattle.privilege.proofs.Numbers.{field_at, field_none, field_above, field_below, Unnamed, read_other, write_other}
 
@@ -82,14 +78,14 @@ if_known P sr p0 p1 p2 p8 p9 pA p40 p41 p42 p43 p44 q =
     (next_known P (eqb sr 0x43) _ p43
     (next_known P (eqb sr 0x44) _ p44 q))))))))))
 
-region_some : (sr : ℕ) → is_region sr ≡ true → region_field sr ≡ At ((sr - 16) / 4) ((sr - 16) % 4)
+region_some : (sr : ℕ) → is_region sr ≡ true → region_field sr ≡ Some (((sr - 16) / 4), ((sr - 16) % 4))
 region_some sr h =
     let low = leb-true 0x10 sr (and_left (leb 0x10 sr) (leb sr 0x2E) (and_left (leb 0x10 sr && leb sr 0x2E) (ltb (sr % 4) 3) h)) in
     let high = leb-true sr 0x2E (and_right (leb 0x10 sr) (leb sr 0x2E) (and_left (leb 0x10 sr && leb sr 0x2E) (ltb (sr % 4) 3) h)) in
     let field = ltb-true (sr % 4) 3 (and_right (leb 0x10 sr && leb sr 0x2E) (ltb (sr % 4) 3) h) in
     sym (field_at sr low (omega arith) (omega arith))
 
-region_none : (sr : ℕ) → is_region sr ≡ false → region_field sr ≡ Nothing
+region_none : (sr : ℕ) → is_region sr ≡ false → region_field sr ≡ None
 region_none sr h =
     ⊎_elim
     (λ (b : leb 16 sr ≡ true).
@@ -112,35 +108,35 @@ region_none sr h =
         rw (b, le-leb sr 0x2E (omega arith), lt-ltb (sr % 4) 3 (omega arith))
 
 abbrev IsDone : SrWritten → Type 0
-IsDone r = r.answer ≡ answer.Done
+IsDone r = r.answer ≡ Ok tt
 
 user_done : (s : SystemState) (i v : ℕ) (reg : List ℕ) → IsDone (user_written s i v reg)
 unfolding user_written
 user_done s i v reg = cond_holds IsDone s.user refl refl
 
 module _ (s : SystemState) (sr : ℕ) (reg : List ℕ) where
-  pub unknown_read : known sr ≡ false → sr_read s sr reg ≡ read.Refused Register
+  pub unknown_read : known sr ≡ false → sr_read s sr reg ≡ Err Register
   unknown_read h = let n = none_listed sr h in read_other s sr reg n.0 ∙ rw (region_none sr n.1)
 
-  pub unknown_written : (v : ℕ) → known sr ≡ false → sr_written s sr v reg ≡ record { sys = s; reg = reg; answer = answer.Refused Register }
+  pub unknown_written : (v : ℕ) → known sr ≡ false → sr_written s sr v reg ≡ record { sys = s; reg = reg; answer = Err Register }
   unknown_written v h = let n = none_listed sr h in write_other s sr reg n.0 v ∙ rw (region_none sr n.1)
 
-  pub known_read : (r : Refusal) → known sr ≡ true → sr_read s sr reg ≡ read.Refused r → ⊥
+  pub known_read : (r : Refusal) → known sr ≡ true → sr_read s sr reg ≡ Err r → ⊥
   unfolding sr_read
   known_read r =
-      let value : (v : ℕ) → read.Value v ≡ read.Refused r → ⊥ = λ v e. absurd_eq (cc) in
-      if_known (λ (x : SrRead). x ≡ read.Refused r → ⊥) sr (value (status_of s)) (value s.epc) (value s.cause) (value (user_read s 0 reg))
+      let value : (v : ℕ) → Ok v ≡ Err r → ⊥ = λ v e. absurd_eq (cc) in
+      if_known (λ (x : Result ℕ Refusal). x ≡ Err r → ⊥) sr (value (status_of s)) (value s.epc) (value s.cause) (value (user_read s 0 reg))
       (value (user_read s 1 reg)) (value (user_read s 2 reg)) (value (bit_if s.vm.enabled 1)) (value s.vm.ptbr) (value s.vm.vfault) (value 0)
       (value 0) (λ h. rw (region_some sr h) (value (field_of (get_or s.regions ((sr - 16) / 4) no_region) ((sr - 16) % 4))))
 
-  pub known_written : (v : ℕ) → known sr ≡ true → (sr_written s sr v reg).answer ≡ answer.Done
+  pub known_written : (v : ℕ) → known sr ≡ true → (sr_written s sr v reg).answer ≡ Ok tt
   unfolding sr_written
   known_written v =
       if_known IsDone sr refl refl refl (user_done s 0 v reg) (user_done s 1 v reg) (user_done s 2 v reg) refl refl refl refl refl
       (λ h. rw (region_some sr h))
 
 module _ (s : SystemState) (reg : List ℕ) where
-  pub user_read_lem : (i : ℕ) → i < 3 → sr_read s (0x08 + i) reg ≡ read.Value (cond s.user (get_or reg (28 + i) 0) (get_or s.other_bank i 0))
+  pub user_read_lem : (i : ℕ) → i < 3 → sr_read s (0x08 + i) reg ≡ Ok (cond s.user (get_or reg (28 + i) 0) (get_or s.other_bank i 0))
   unfolding sr_read user_read
   user_read_lem zero h = refl
   user_read_lem (suc zero) h = refl
@@ -159,14 +155,14 @@ module _ (s : SystemState) (reg : List ℕ) where
     unnamed : Unnamed (0x10 + 4 * n + f)
     unnamed = (λ e. omega arith, λ e. omega arith, λ e. omega arith, λ e. omega arith, λ e. omega arith, λ e. omega arith, λ e. omega arith, λ e. omega arith, λ e. omega arith, λ e. omega arith, λ e. omega arith)
 
-    number_is : region_field (0x10 + 4 * n + f) ≡ At n f
+    number_is : region_field (0x10 + 4 * n + f) ≡ Some (n, f)
     number_is =
         let sr = 0x10 + 4 * n + f in
         let region : (sr - 16) / 4 ≡ n = omega arith in
         let field : (sr - 16) % 4 ≡ f = omega arith in
         rw (region, field) at (sym (field_at sr (omega arith) (omega arith) (omega arith)))
 
-    pub region_read_lem : sr_read s (0x10 + 4 * n + f) reg ≡ read.Value (field_of (get_or s.regions n no_region) f)
+    pub region_read_lem : sr_read s (0x10 + 4 * n + f) reg ≡ Ok (field_of (get_or s.regions n no_region) f)
     region_read_lem = read_other s (0x10 + 4 * n + f) reg unnamed ∙ rw number_is
 
     pub region_written_lem : (v : ℕ)

@@ -1,10 +1,11 @@
 -- Register numbers as the code decodes them, and what each way answers. Assumes nothing.
-use Rattle.std.proofs.Common.{◌≡◌, ℕ, ◌+◌, ◌-◌, ◌*◌, ◌/◌, ◌%◌, ◌^◌, ◌<◌, ◌≤◌, Bool, true, false, not, ◌&&◌, eqb, ltb, leb, List, get_or, set, refl, ◌∙◌, arith, ltb-true, le-ltb, lt-ltb, ne_eqb, le-leb}
-use lib.Bits.{bit_and, and_high}
+use Rattle.std.proofs.Common.{◌≡◌, ℕ, ◌+◌, ◌-◌, ◌*◌, ◌/◌, ◌%◌, ◌^◌, ◌<◌, ◌≤◌, Bool, true, false, not, ◌&&◌, eqb, ltb, leb, List, get_or, set, refl, ap, ◌∙◌, arith, ltb-true, le-ltb, lt-ltb, ne_eqb, le-leb, Option, Some, None, Ok, Err, ok_or, bit_and}
+use Rattle.std.proofs.lemmas.Nat.Bits.{and_high}
 use mir.Val.{bool_byte}
-use borrow.Author.Tests.{lt-leb}
+use Rattle.std.proofs.lemmas.Bool.{lt-leb}
 use Rattle.common.specs.Bits.Laws.{flag_is}
 use Rattle.common.specs.Cases.{cond_case, absurd_eq, and_left, and_right}
+use Rattle.common.specs.declared.Refusal.{Refusal}
 use Rattle.common.specs.declared.Refusal.TheVariants as refusal
 use Rattle.mmu.specs.Vm.{flushed, invalidated}
 use Rattle.mmu.specs.declared.vm.Vm.{Vm}
@@ -13,63 +14,62 @@ use Rattle.privilege.specs.Registers.{region_field, user_read, user_written, reg
 use Rattle.privilege.specs.State.{no_region, bit_if, with_regions, with_other, with_vm}
 use Rattle.privilege.specs.declared.region.Region.{Region}
 use Rattle.privilege.specs.declared.state.SystemState.{SystemState}
-use Rattle.privilege.specs.declared.registers.RegionField.{RegionField}
-use Rattle.privilege.specs.declared.registers.RegionField.TheVariants.{At, Nothing}
-use Rattle.privilege.specs.declared.registers.SrRead.TheVariants as read
-use Rattle.privilege.specs.declared.registers.SrAnswer.TheVariants as answer
 use Rattle.privilege.specs.declared.registers.SrWritten.{SrWritten}
 
 -- the four ways through `region_field`
 module _ (sr : ℕ) where
-  pub field_below : sr < 16 → Nothing ≡ region_field sr
+  pub field_below : sr < 16 → None ≡ region_field sr
   unfolding region_field
   field_below h = rw (lt-leb 16 sr h)
 
-  pub field_above : 16 ≤ sr → 8 ≤ (sr - 16) / 4 → Nothing ≡ region_field sr
+  pub field_above : 16 ≤ sr → 8 ≤ (sr - 16) / 4 → None ≡ region_field sr
   unfolding region_field
   field_above h g = rw (le-leb 16 sr h, le-ltb ((sr - 16) / 4) 8 g)
 
-  pub field_at : 16 ≤ sr → (sr - 16) / 4 < 8 → (sr - 16) % 4 < 3 → At ((sr - 16) / 4) ((sr - 16) % 4) ≡ region_field sr
+  pub field_at : 16 ≤ sr → (sr - 16) / 4 < 8 → (sr - 16) % 4 < 3 → Some (((sr - 16) / 4), ((sr - 16) % 4)) ≡ region_field sr
   unfolding region_field
   field_at h g f = rw (le-leb 16 sr h, lt-ltb ((sr - 16) / 4) 8 g, lt-ltb ((sr - 16) % 4) 3 f)
 
-  pub field_none : 16 ≤ sr → (sr - 16) / 4 < 8 → 3 ≤ (sr - 16) % 4 → Nothing ≡ region_field sr
+  pub field_none : 16 ≤ sr → (sr - 16) / 4 < 8 → 3 ≤ (sr - 16) % 4 → None ≡ region_field sr
   unfolding region_field
   field_none h g f = rw (le-leb 16 sr h, lt-ltb ((sr - 16) / 4) 8 g, le-ltb ((sr - 16) % 4) 3 f)
 
 -- a region's number is below 8
-pub field_bound : (sr n f : ℕ) → region_field sr ≡ At n f → n < 8
+pub field_bound : (sr n f : ℕ) → region_field sr ≡ Some (n, f) → n < 8
 unfolding region_field
 field_bound sr n f =
-    cond_case (λ (p : RegionField). p ≡ At n f → n < 8) (leb 16 sr && ltb ((sr - 16) / 4) 8 && ltb ((sr - 16) % 4) 3)
+    cond_case (λ (p : Option (ℕ × ℕ)). p ≡ Some (n, f) → n < 8) (leb 16 sr && ltb ((sr - 16) / 4) 8 && ltb ((sr - 16) % 4) 3)
     (λ t e.
     let low = and_right (leb 16 sr) (ltb ((sr - 16) / 4) 8) (and_left (leb 16 sr && ltb ((sr - 16) / 4) 8) (ltb ((sr - 16) % 4) 3) t) in
-    let q : (sr - 16) / 4 ≡ n = cc in rw q at (ltb-true ((sr - 16) / 4) 8 low))
+    let p : ◌≡◌ {A = ℕ × ℕ} ((sr - 16) / 4, (sr - 16) % 4) (n, f) = cc in
+    rw (ap (λ (x : ℕ × ℕ). x.0) p) at (ltb-true ((sr - 16) / 4) 8 low))
     (λ t e. absurd_eq (cc))
 
 -- a region's register, where decoding its number answered p
-module _ (s : SystemState) (sr : ℕ) (p : RegionField) (is : p ≡ region_field sr) where
-  pub read_unknown : p ≡ Nothing → read.Refused refusal.Register ≡ region_read s (region_field sr)
-  read_unknown e = rw (← is, e)
+module _ (s : SystemState) (sr : ℕ) (p : Option (ℕ × ℕ)) (is : p ≡ region_field sr) where
+  pub read_unknown : (r : Refusal) → p ≡ None → Err r ≡ ok_or p refusal.Register → Err r ≡ region_read s (region_field sr)
+  read_unknown r e q =
+      let z : r ≡ refusal.Register = cc in
+      rw (z, ← is, e)
 
-  pub read_field : (n f v : ℕ) → p ≡ At n f → v ≡ field_of (get_or s.regions n no_region) f → read.Value v ≡ region_read s (region_field sr)
+  pub read_field : (n f v : ℕ) → p ≡ Some (n, f) → v ≡ field_of (get_or s.regions n no_region) f → Ok v ≡ region_read s (region_field sr)
   read_field n f v e q = rw (← is, e, q)
 
   module _ (reg : List ℕ) (v : ℕ) where
-    pub write_unknown : p ≡ Nothing → record { sys = s; reg = reg; answer = answer.Refused refusal.Register } ≡ region_written s reg v (region_field sr)
+    pub write_unknown : p ≡ None → record { sys = s; reg = reg; answer = Err refusal.Register } ≡ region_written s reg v (region_field sr)
     write_unknown e = rw (← is, e)
 
-    pub write_field : (n f : ℕ) (l : List Region) (r : SrWritten) → p ≡ At n f → l ≡ field_written s.regions n f v
+    pub write_field : (n f : ℕ) (l : List Region) (r : SrWritten) → p ≡ Some (n, f) → l ≡ field_written s.regions n f v
         → r ≡ written (with_regions s l) reg → r ≡ region_written s reg v (region_field sr)
     write_field n f l r e q w = w ∙ rw (← is, e, q)
 
 -- the user's bank
 module _ (s : SystemState) (i : ℕ) (reg : List ℕ) where
-  pub read_live : s.user ≡ true → read.Value (get_or reg (28 + i) 0) ≡ read.Value (user_read s i reg)
+  pub read_live : s.user ≡ true → get_or reg (28 + i) 0 ≡ user_read s i reg
   unfolding user_read
   read_live h = rw h
 
-  pub read_saved : s.user ≡ false → read.Value (get_or s.other_bank i 0) ≡ read.Value (user_read s i reg)
+  pub read_saved : s.user ≡ false → get_or s.other_bank i 0 ≡ user_read s i reg
   unfolding user_read
   read_saved h = rw h
 

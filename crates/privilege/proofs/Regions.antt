@@ -1,7 +1,6 @@
 -- A region's test, the search through the regions, and the loop over an access's bytes. Assumes nothing.
-use Rattle.std.proofs.Common.{◌≡◌, ℕ, suc, ◌+◌, ◌-◌, ◌/◌, ◌%◌, ◌^◌, ◌<◌, ◌≤◌, Bool, true, false, eqb, ltb, List, length, get_or, drop, sym, ◌∙◌, add-one, arith, drop_of_length-le, drop-cons, le-ltb, lt-ltb, le-leb}
-use lib.Bits.{bit_and}
-use borrow.Author.Tests.{lt-leb}
+use Rattle.std.proofs.Common.{◌≡◌, ◌&&◌, ℕ, suc, ◌+◌, ◌-◌, ◌/◌, ◌%◌, ◌^◌, ◌<◌, ◌≤◌, Bool, true, false, eqb, ltb, List, length, get_or, drop, sym, ◌∙◌, add-one, arith, drop_of_length-le, drop-cons, le-ltb, lt-ltb, le-leb, bit_and}
+use Rattle.std.proofs.lemmas.Bool.{lt-leb}
 use Rattle.common.specs.Bits.{bit_set}
 use Rattle.common.specs.Bits.Laws.{clear_bit, set_bit}
 use Rattle.mmu.specs.Exception.{region_bit}
@@ -61,16 +60,22 @@ module _ (l : List Region) (a : ℕ) (k : Access) where
   pub byte_by_regions : (r : Bool) → a < 0xFFFF_0000 → r ≡ some_grants l a k → r ≡ byte_allowed l k a
   byte_by_regions r h e = rw (lt-ltb a 0xFFFF_0000 h, ← e)
 
--- the loop over the bytes, of which n are left
-module _ (z : Bool) (l : List Region) (k : Access) (n a : ℕ) (p : z ≡ all_allowed l k (addresses n a)) where
-  pub no_byte_left : n ≡ 0 → true ≡ z
+-- the loop over the bytes: n - i are left
+module _ (z : Bool) (l : List Region) (k : Access) (a n i : ℕ) (p : z ≡ all_allowed l k (addresses (n - i) ((a + i) % 2 ^ 32))) where
+  pub no_byte_left : n ≤ i → true ≡ z
   unfolding all_allowed addresses
-  no_byte_left h = sym (p ∙ rw h)
+  no_byte_left h = let m : n - i ≡ 0 = omega arith in sym (p ∙ rw m)
 
-  pub byte_allowed_lem : (r : Bool) (next : ℕ) → (n ≡ 0 → ⊥) → r ≡ byte_allowed l k a → r ≡ true → next ≡ (a + 1) % 2 ^ 32 → z ≡ all_allowed l k (addresses (n - 1) next)
-  unfolding all_allowed addresses
-  byte_allowed_lem r next h e t q = let m : n ≡ suc (n - 1) = omega arith in rw m at p ∙ rw (← e, t, q)
+  module _ (b : ℕ) (r : Bool) (more : i < n) (at : b ≡ (a + i) % 2 ^ 32) (e : r ≡ byte_allowed l k b) where
+    first : z ≡ (r && all_allowed l k (addresses (n - (i + 1)) ((a + (i + 1)) % 2 ^ 32)))
+    unfolding all_allowed addresses
+    first =
+        let m : n - i ≡ suc (n - (i + 1)) = omega arith in
+        let step : ((a + i) % 2 ^ 32 + 1) % 2 ^ 32 ≡ (a + (i + 1)) % 2 ^ 32 = omega arith in
+        rw m at p ∙ rw (step, e, at)
 
-  pub byte_denied : (r : Bool) → (n ≡ 0 → ⊥) → r ≡ byte_allowed l k a → r ≡ false → false ≡ z
-  unfolding all_allowed addresses
-  byte_denied r h e t = let m : n ≡ suc (n - 1) = omega arith in sym (rw m at p ∙ rw (← e, t))
+    pub byte_allowed_lem : r ≡ true → z ≡ all_allowed l k (addresses (n - (i + 1)) ((a + (i + 1)) % 2 ^ 32))
+    byte_allowed_lem t = first ∙ rw t
+
+    pub byte_denied : r ≡ false → false ≡ z
+    byte_denied t = sym (first ∙ rw t)

@@ -1,13 +1,13 @@
 -- The document's sentences, from the definitions. Assumes nothing.
-use Rattle.std.proofs.Common.{◌≡◌, ℕ, zero, suc, ◌+◌, ◌*◌, ◌/◌, ◌%◌, ◌^◌, ◌<◌, ◌≤◌, Bool, true, false, ◌&&◌, ◌||◌, eqb, List, get_or, set, sym, refl, ap, ◌∙◌, arith, lit<, length-set, get_or-set_other, get_or-set_same, le-ltb, lt-ltb, le-leb}
-use mathlib.Core.Bool.{and-true, and-false, or-true, or-false}
-use lib.Bits.{or_lt}
-use borrow.Author.Tests.{lt-leb}
+use Rattle.std.proofs.Common.{◌≡◌, ℕ, zero, suc, ◌+◌, ◌*◌, ◌/◌, ◌%◌, ◌^◌, ◌<◌, ◌≤◌, Bool, true, false, ◌&&◌, ◌||◌, eqb, List, get_or, set, sym, refl, ap, ◌∙◌, arith, lit<, length-set, get_or-set_other, get_or-set_same, le-ltb, lt-ltb, le-leb, Ok}
+use Rattle.std.proofs.Math.Bool.{and-true, and-false, or-true, or-false}
+use Rattle.std.proofs.lemmas.Nat.{or_lt}
+use Rattle.std.proofs.lemmas.Bool.{lt-leb}
 use Rattle.common.specs.Bits.{bit_set}
 use Rattle.common.specs.Bits.Laws.{bit_or_lem, bit_of_zero}
 use Rattle.common.specs.Cases.{cond_holds, and_left, and_right}
 use Rattle.common.specs.declared.Refusal.TheVariants.{Size, Map}
-use Rattle.memory.specs.Gate.{Open, map_good, access_gate}
+use Rattle.memory.specs.Gate.{map_good, access_gate}
 use Rattle.memory.specs.Gate.Laws.{map_open, map_shut, size_open, size_shut, size_kept}
 use Rattle.memory.specs.Memory.{Memory}
 use Rattle.memory.specs.Memory.Laws.{over, byte_inside, put_here, put_out}
@@ -216,7 +216,7 @@ module _ (s : SystemState) (a n : ℕ) (k : Access) where
   unfolding translating_of
   is_on h g = rw (h, g)
 
-opened : (m : Memory) (k : Access) (n : ℕ) → map_good m ≡ true → legal_size k n ≡ true → access_gate m (legal_size k n) ≡ Open
+opened : (m : Memory) (k : Access) (n : ℕ) → map_good m ≡ true → legal_size k n ≡ true → access_gate m (legal_size k n) ≡ Ok tt
 opened m k n h g = size_open m (legal_size k n) (map_open m h) g
 
 pub meaning_holds : Meaning

@@ -1,6 +1,5 @@
 -- STATUS as the code makes and reads it. Assumes nothing.
-use Rattle.std.proofs.Common.{◌≡◌, ℕ, Bool, not, eqb, ◌∙◌}
-use lib.Bits.{bit_and}
+use Rattle.std.proofs.Common.{◌≡◌, ℕ, Bool, not, eqb, ◌∙◌, bit_and}
 use Rattle.common.specs.Bits.Laws.{flag_is}
 use Rattle.privilege.specs.State.{is_short, mode_of, status_bits, status_of, with_status, status_set}
 use Rattle.privilege.specs.declared.state.InstructionMode.{InstructionMode}

@@ -6,7 +6,7 @@
 --   check_refills     == a check keeps all but the TLB
 --   aligned_stays     == an aligned access of a legal size stays in its page
 --   page_open         == the bytes of an allowed access that stays in its page lie in a page that is open to users for it
-use Rattle.std.specs.Prelude.{◌≡◌, ℕ, zero, suc, ◌+◌, ◌/◌, ◌%◌, ◌^◌, ◌<◌, ◌≤◌, Bool, true, false, cond, ◌||◌, ◌⊎◌, [], ◌∷◌, map, length, ◌==◌, slice_index_or, refl}
+use Rattle.std.specs.Prelude.{◌≡◌, ℕ, zero, suc, ◌+◌, ◌/◌, ◌%◌, ◌^◌, ◌<◌, ◌≤◌, Bool, true, false, cond, ◌||◌, ◌⊎◌, [], ◌∷◌, map, length, ◌==◌, slice_index_or, refl, Some, Result, Ok, Err}
 use Rattle.std.proofs.Common.{sym, ap, ◌∙◌, inl, inr, ⊎_elim, arith, eqb-true}
 use Rattle.common.specs.Cases.{absurd_eq, cond_holds, cond_case}
 use Rattle.common.specs.Lists.{Each, each_map}
@@ -20,17 +20,14 @@ use Rattle.mmu.specs.Opened.{entry_frame, Opened, opened}
 use Rattle.mmu.specs.Opened.Laws.{TablesAgree, Refilled, kept, passed, each_same, each_one, refilled_each, refilled_page, refilled_enabled, pages_small, pages_one}
 use Rattle.mmu.specs.Tlb.{no_entry, first_match}
 use Rattle.mmu.specs.declared.check.Checked.{Checked}
-use Rattle.mmu.specs.declared.check.Verdict.{Verdict}
-use Rattle.mmu.specs.declared.check.Verdict.TheVariants as verdict
+use Rattle.mmu.specs.declared.exception.Exception.{Exception}
 use Rattle.mmu.specs.declared.exception.Access.{Access}
 use Rattle.mmu.specs.declared.exception.Access.TheVariants.{Read, Write, Fetch}
-use Rattle.mmu.specs.declared.tlb.Slot.TheVariants.{At}
 use Rattle.privilege.specs.Access.{fetch_size, data_size, legal_size, translating_of, permission_of, from_pages, by_regions, check_legal, check_access}
 use Rattle.privilege.specs.Addresses.{addresses}
 use Rattle.privilege.specs.State.{with_vm}
 use Rattle.privilege.specs.Transfer.{physical_of, spots}
 use Rattle.privilege.specs.declared.check.AccessChecked.{AccessChecked}
-use Rattle.privilege.specs.declared.check.Permission.TheVariants.{Allowed}
 use Rattle.privilege.specs.declared.state.SystemState.{SystemState}
 
 pub record Running (s : SystemState) : Type 0 where
@@ -101,12 +98,12 @@ in_page a n s h =
     (λ t. ⊎_elim (λ e. let g : a % 2 ≡ 0 = rw e at h in (omega arith, omega arith)) (λ e. let g : a % 4 ≡ 0 = rw e at h in (omega arith, omega arith)) t) s
 
 -- a page that is resident with entry i: each of its bytes lies in that entry's frame
-physical_in : (s : SystemState) (va i : ℕ) → translating_of s ≡ true → slot_of s.vm va ≡ At i
+physical_in : (s : SystemState) (va i : ℕ) → translating_of s ≡ true → slot_of s.vm va ≡ Some i
     → physical_of s va / 4096 ≡ entry_frame (slice_index_or s.vm.tlb i no_entry)
 unfolding physical_of frame_of
 physical_in s va i t p = rw (t, p) (omega arith)
 
-spots_in : (s : SystemState) (p i : ℕ) → translating_of s ≡ true → first_match p 0 s.vm.tlb ≡ At i → p < 2 ^ 20 → (n va : ℕ) → va / 4096 ≡ p → va % 4096 + n ≤ 4096
+spots_in : (s : SystemState) (p i : ℕ) → translating_of s ≡ true → first_match p 0 s.vm.tlb ≡ Some i → p < 2 ^ 20 → (n va : ℕ) → va / 4096 ≡ p → va % 4096 + n ≤ 4096
     → Each (λ a. a / 4096 ≡ entry_frame (slice_index_or s.vm.tlb i no_entry)) (map (physical_of s) (addresses n va))
 unfolding addresses
 spots_in s p i t q h zero va e g = tt
@@ -123,14 +120,14 @@ running_translates s r = rw (r.user, r.enabled)
 -- what an allowed access of a running user was, where c is the check's answer: legal, and allowed page by page
 pub record Through (m : Memory) (s : SystemState) (a n : ℕ) (k : Access) (c : AccessChecked) : Type 0 where
   pub legal : legal_size k n ≡ true
-  pub pages : (check_each m k s.vm (pages_of a n)).verdict ≡ verdict.Allowed
+  pub pages : (check_each m k s.vm (pages_of a n)).verdict ≡ Ok tt
   pub leaves : c.sys ≡ with_vm s (check_each m k s.vm (pages_of a n)).vm
 
-verdict_allowed : (v : Verdict) → permission_of v ≡ Allowed → v ≡ verdict.Allowed
-verdict_allowed verdict.Allowed p = refl
-verdict_allowed (verdict.Denied e) p = absurd_eq (cc)
+verdict_allowed : (v : Result (Unit {0}) Exception) → permission_of v ≡ Ok tt → v ≡ Ok tt
+verdict_allowed (Ok tt) p = refl
+verdict_allowed (Err e) p = absurd_eq (cc)
 
-through : (m : Memory) (s : SystemState) (a n : ℕ) (k : Access) → Running s → (check_access m s a n k).permission ≡ Allowed → Through m s a n k (check_access m s a n k)
+through : (m : Memory) (s : SystemState) (a n : ℕ) (k : Access) → Running s → (check_access m s a n k).permission ≡ Ok tt → Through m s a n k (check_access m s a n k)
 unfolding check_access check_legal
 through m s a n k run =
     gated_case Passes (access_gate m (legal_size k n))
@@ -140,7 +137,7 @@ through m s a n k run =
     (λ r g p. absurd_eq (cc))
   where
     Passes : AccessChecked → Type 0
-    Passes c = c.permission ≡ Allowed → Through m s a n k c
+    Passes c = c.permission ≡ Ok tt → Through m s a n k c
 
 some : (k : Access) (n : ℕ) → legal_size k n ≡ true → 0 < n
 some k n h = sized (legal_sized k n h)
@@ -154,7 +151,7 @@ aligned_stays k a n al h = (in_page a n (legal_sized k n h) al).1
 -- the bytes of an allowed access
 pub page_open : (m : Memory) (s : SystemState) (a n : ℕ) (k : Access) → Running s → length s.vm.tlb ≡ 16 → a < 2 ^ 32
     → (legal_size k n ≡ true → a % 4096 + n ≤ 4096)
-    → (check_access m s a n k).permission ≡ Allowed → Each (λ b. Opened m s.vm k b) (spots (check_access m s a n k).sys a n)
+    → (check_access m s a n k).permission ≡ Ok tt → Each (λ b. Opened m s.vm k b) (spots (check_access m s a n k).sys a n)
 unfolding spots translating_of
 page_open m s a n k run slots h stays p =
     let thr = through m s a n k run p in

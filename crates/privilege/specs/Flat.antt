@@ -9,7 +9,7 @@
 --   Exchanges l l'                    == R28 to R30 exchanged with the bank
 --   Leaves l' r w                     == the words l' and the answer r are what the write w of a register leaves
 --   Traps, Returns, ReadsSr, WritesSr == what `enter_trap`, `leave_trap`, `read_sr` and `write_sr` promise over any words
-use Rattle.std.specs.Prelude.{◌≡◌, ℕ, ◌+◌, List, [], ◌∷◌, length}
+use Rattle.std.specs.Prelude.{◌≡◌, ℕ, ◌+◌, List, [], ◌∷◌, length, Result, Err}
 use Rattle.common.specs.declared.Refusal.TheVariants as refusal
 use Rattle.layout.specs.Records.{records_of}
 use Rattle.layout.specs.Words.{part, word_at, on_at, Over, Reads}
@@ -19,10 +19,7 @@ use Rattle.privilege.specs.State.{mode_of}
 use Rattle.privilege.specs.Trap.{exchanged, trapped, returned}
 use Rattle.privilege.specs.declared.flat.traps.Resumed.{Resumed}
 use Rattle.privilege.specs.declared.region.Region.{Region}
-use Rattle.privilege.specs.declared.registers.SrAnswer.{SrAnswer}
-use Rattle.privilege.specs.declared.registers.SrAnswer.TheVariants as answer
-use Rattle.privilege.specs.declared.registers.SrRead.{SrRead}
-use Rattle.privilege.specs.declared.registers.SrRead.TheVariants as read
+use Rattle.common.specs.declared.Refusal.{Refusal}
 use Rattle.privilege.specs.declared.registers.SrWritten.{SrWritten}
 use Rattle.privilege.specs.declared.state.InstructionMode.{InstructionMode}
 use Rattle.privilege.specs.declared.state.InstructionMode.TheVariants.{Normal}
@@ -96,11 +93,11 @@ Returns l l' r =
     Over system_words l l' r (record { epc = 0; mode = Normal })
     (◌≡◌ {A = Returned} (record { sys = sys_at l'; reg = reg_at l'; epc = r.epc; mode = r.mode }) (returned (sys_at l) (reg_at l)))
 
-abbrev pub Leaves : List ℕ → SrAnswer → SrWritten → Type 0
+abbrev pub Leaves : List ℕ → Result (Unit {0}) Refusal → SrWritten → Type 0
 Leaves l' r w = ◌≡◌ {A = SrWritten} (record { sys = sys_at l'; reg = reg_at l'; answer = r }) w
 
-abbrev pub ReadsSr : List ℕ → ℕ → SrRead → Type 0
-ReadsSr l sr r = Reads system_words l r (read.Refused refusal.Register) (sr_read (sys_at l) sr (reg_at l))
+abbrev pub ReadsSr : List ℕ → ℕ → Result ℕ Refusal → Type 0
+ReadsSr l sr r = Reads system_words l r (Err refusal.Register) (sr_read (sys_at l) sr (reg_at l))
 
-abbrev pub WritesSr : List ℕ → List ℕ → ℕ → ℕ → SrAnswer → Type 0
-WritesSr l l' sr v r = Over system_words l l' r (answer.Refused refusal.Register) (Leaves l' r (sr_written (sys_at l) sr v (reg_at l)))
+abbrev pub WritesSr : List ℕ → List ℕ → ℕ → ℕ → Result (Unit {0}) Refusal → Type 0
+WritesSr l l' sr v r = Over system_words l l' r (Err refusal.Register) (Leaves l' r (sr_written (sys_at l) sr v (reg_at l)))

@@ -5,21 +5,21 @@
 --   known sr      == the number is a register's
 --   Registers reg == R0 to R31, as every register file is
 --   Meaning       == the laws, one field a sentence
-use Rattle.std.specs.Prelude.{◌≡◌, ℕ, ◌+◌, ◌*◌, ◌/◌, ◌%◌, ◌^◌, ◌<◌, ◌≤◌, Bool, true, false, cond, ◌&&◌, ◌||◌, List, [], ◌∷◌, length, get_or, ◌==◌, ◌≢◌, nat_le, nat_lt, slice_index, slice_index_or, slice_set}
+use Rattle.std.specs.Prelude.{◌≡◌, ℕ, ◌+◌, ◌*◌, ◌/◌, ◌%◌, ◌^◌, ◌<◌, ◌≤◌, Bool, true, false, cond, ◌&&◌, ◌||◌, List, [], ◌∷◌, length, get_or, ◌==◌, ◌≢◌, nat_le, nat_lt, slice_index, slice_index_or, slice_set, Some, None, Ok, Err}
 use Rattle.common.specs.Bits.{bit_set}
 use Rattle.common.specs.Bytes.{big_endian, bytes_of}
 use Rattle.common.specs.declared.Refusal.{Refusal}
 use Rattle.common.specs.declared.Refusal.TheVariants.{Size, Map, Register}
 use Rattle.memory.specs.Gate.{map_good}
 use Rattle.memory.specs.Memory.{Memory, writable, byte_at, put_byte, put_at, all_writable}
-use Rattle.memory.specs.declared.Content.TheVariants.{Value, Outside}
+use Rattle.privilege.specs.declared.check.AccessError.TheVariants.{Denied, Refused}
+use Rattle.privilege.specs.declared.transfer.DataError.TheVariants.{BusError}
 use Rattle.mmu.specs.Check.{check_each, pages_of}
 use Rattle.mmu.specs.Exception.{region_bit}
 use Rattle.mmu.specs.Tlb.{no_entry, no_entries}
 use Rattle.mmu.specs.Vm.{slot_of}
 use Rattle.mmu.specs.declared.exception.Access.{Access}
 use Rattle.mmu.specs.declared.exception.Exception.TheVariants.{ProtectionFault}
-use Rattle.mmu.specs.declared.tlb.Slot.TheVariants.{At, Nothing}
 use Rattle.mmu.specs.declared.vm.Vm.{Vm}
 use Rattle.privilege.specs.Access.{data_size, legal_size, access_answered, from_pages, check_access, allows_of, translating_of}
 use Rattle.privilege.specs.Debug.{mapped_to, debug_translated, slot_view}
@@ -32,11 +32,6 @@ use Rattle.privilege.specs.Trap.{bank_of, with_bank, trapped, returned, enters_u
 use Rattle.privilege.specs.declared.region.Region.{Region}
 use Rattle.privilege.specs.declared.state.InstructionMode.{InstructionMode}
 use Rattle.privilege.specs.declared.state.SystemState.{SystemState}
-use Rattle.privilege.specs.declared.registers.SrRead.TheVariants as read
-use Rattle.privilege.specs.declared.registers.SrAnswer.TheVariants as answer
-use Rattle.privilege.specs.declared.check.Permission.TheVariants.{Allowed, Denied, Refused}
-use Rattle.privilege.specs.declared.transfer.DataRead.TheVariants as loaded
-use Rattle.privilege.specs.declared.transfer.DataWritten.TheVariants as stored
 
 abbrev pub named : List ℕ
 named = 0x00 ∷ 0x01 ∷ 0x02 ∷ 0x08 ∷ 0x09 ∷ 0x0A ∷ 0x40 ∷ 0x41 ∷ 0x42 ∷ 0x43 ∷ 0x44 ∷ []
@@ -106,27 +101,27 @@ pub record Meaning : Type 0 where
   pub banked : (reg b : List ℕ) (i : ℕ) → Registers reg → i < 3 → slice_index (with_bank reg b) (28 + i) ≡ slice_index b i
   pub unbanked : (reg b : List ℕ) (i : ℕ) → (i ≢ 28) → (i ≢ 29) → (i ≢ 30) → slice_index (with_bank reg b) i ≡ slice_index reg i
   -- ---- registers: "All others are unknown": refusal 3 exactly for those, and nothing moved
-  pub unknown_read : (s : SystemState) (sr : ℕ) (reg : List ℕ) → known sr ≡ false → sr_read s sr reg ≡ read.Refused Register
+  pub unknown_read : (s : SystemState) (sr : ℕ) (reg : List ℕ) → known sr ≡ false → sr_read s sr reg ≡ Err Register
   pub unknown_written : (s : SystemState) (sr v : ℕ) (reg : List ℕ) → known sr ≡ false →
-      sr_written s sr v reg ≡ record { sys = s; reg = reg; answer = answer.Refused Register }
-  pub known_read : (s : SystemState) (sr : ℕ) (reg : List ℕ) (r : Refusal) → known sr ≡ true → sr_read s sr reg ≢ read.Refused r
-  pub known_written : (s : SystemState) (sr v : ℕ) (reg : List ℕ) → known sr ≡ true → (sr_written s sr v reg).answer ≡ answer.Done
+      sr_written s sr v reg ≡ record { sys = s; reg = reg; answer = Err Register }
+  pub known_read : (s : SystemState) (sr : ℕ) (reg : List ℕ) (r : Refusal) → known sr ≡ true → sr_read s sr reg ≢ Err r
+  pub known_written : (s : SystemState) (sr v : ℕ) (reg : List ℕ) → known sr ≡ true → (sr_written s sr v reg).answer ≡ Ok tt
   -- "0x00 STATUS, 0x01 EPC, 0x02 CAUSE"
   pub trap_registers : (s : SystemState) (reg : List ℕ) →
-      (sr_read s 0x00 reg ≡ read.Value (status_of s)) × (sr_read s 0x01 reg ≡ read.Value s.epc) × (sr_read s 0x02 reg ≡ read.Value s.cause)
+      (sr_read s 0x00 reg ≡ Ok (status_of s)) × (sr_read s 0x01 reg ≡ Ok s.epc) × (sr_read s 0x02 reg ≡ Ok s.cause)
   pub trap_registers_written : (s : SystemState) (v : ℕ) (reg : List ℕ) →
       (sr_written s 0x00 v reg ≡ written (status_set s v) reg)
       × (sr_written s 0x01 v reg ≡ written (with_epc s v) reg)
       × (sr_written s 0x02 v reg ≡ written (with_cause s v) reg)
   -- "0x08 to 0x0A user R28 to R30": in user mode the live registers, otherwise the bank
   pub user_read_lem : (s : SystemState) (reg : List ℕ) (i : ℕ) → i < 3 →
-      sr_read s (0x08 + i) reg ≡ read.Value (cond s.user (slice_index reg (28 + i)) (slice_index s.other_bank i))
+      sr_read s (0x08 + i) reg ≡ Ok (cond s.user (slice_index reg (28 + i)) (slice_index s.other_bank i))
   pub user_written_lem : (s : SystemState) (reg : List ℕ) (i v : ℕ) → i < 3 →
       sr_written s (0x08 + i) v reg
       ≡ cond s.user (written s (slice_set reg (28 + i) v)) (written (with_other s (slice_set s.other_bank i v)) reg)
   -- "0x10 + 4n + 0, 1, 2 region n START, END, FLAGS (n 0 to 7, flags masked to 7)"
   pub region_read_lem : (s : SystemState) (reg : List ℕ) (n f : ℕ) → n < 8 → f < 3 →
-      sr_read s (0x10 + 4 * n + f) reg ≡ read.Value (field_of (slice_index_or s.regions n no_region) f)
+      sr_read s (0x10 + 4 * n + f) reg ≡ Ok (field_of (slice_index_or s.regions n no_region) f)
   pub region_written_lem : (s : SystemState) (reg : List ℕ) (n f v : ℕ) → n < 8 → f < 3 →
       sr_written s (0x10 + 4 * n + f) v reg ≡ written (with_regions s (slice_set s.regions n (with_field (slice_index_or s.regions n no_region) f v))) reg
   pub fields : (g : Region) → (field_of g 0 ≡ g.start) × (field_of g 1 ≡ g.end) × (field_of g 2 ≡ g.flags)
@@ -136,11 +131,11 @@ pub record Meaning : Type 0 where
       × (with_field g 2 v ≡ record { start = g.start; end = g.end; flags = v % 8 })
   -- "0x40 VCTL, 0x41 PTBR, 0x42 VFAULT, 0x43 TLBFLUSH, 0x44 TLBINV (both read 0)"
   pub vm_registers : (s : SystemState) (reg : List ℕ) →
-      (sr_read s 0x40 reg ≡ read.Value (bit_if s.vm.enabled 1))
-      × (sr_read s 0x41 reg ≡ read.Value s.vm.ptbr)
-      × (sr_read s 0x42 reg ≡ read.Value s.vm.vfault)
-      × (sr_read s 0x43 reg ≡ read.Value 0)
-      × (sr_read s 0x44 reg ≡ read.Value 0)
+      (sr_read s 0x40 reg ≡ Ok (bit_if s.vm.enabled 1))
+      × (sr_read s 0x41 reg ≡ Ok s.vm.ptbr)
+      × (sr_read s 0x42 reg ≡ Ok s.vm.vfault)
+      × (sr_read s 0x43 reg ≡ Ok 0)
+      × (sr_read s 0x44 reg ≡ Ok 0)
   -- "VCTL keeps bit 0 and flushes nothing"
   pub vctl : (s : SystemState) (v : ℕ) (reg : List ℕ) → sr_written s 0x40 v reg ≡ written (with_vm s (vm_enabled s.vm (bit_set v 0))) reg
   -- "A PTBR write clears its low 12 bits and flushes"
@@ -171,39 +166,39 @@ pub record Meaning : Type 0 where
   pub all_bytes : (s : SystemState) (a n : ℕ) (k : Access) → a < 2 ^ 32 →
       ((i : ℕ) → i < n → byte_allowed s.regions k ((a + i) % 2 ^ 32) ≡ true) → allows_of s a n k ≡ true
   -- ---- the check: "2, then 1", and nothing moved
-  pub check_map : (m : Memory) (s : SystemState) (a n : ℕ) (k : Access) → map_good m ≡ false → check_access m s a n k ≡ access_answered s (Refused Map)
+  pub check_map : (m : Memory) (s : SystemState) (a n : ℕ) (k : Access) → map_good m ≡ false → check_access m s a n k ≡ access_answered s (Err (Refused Map))
   pub check_size : (m : Memory) (s : SystemState) (a n : ℕ) (k : Access) → map_good m ≡ true → legal_size k n ≡ false →
-      check_access m s a n k ≡ access_answered s (Refused Size)
+      check_access m s a n k ≡ access_answered s (Err (Refused Size))
   pub check_answers : (m : Memory) (s : SystemState) (a n : ℕ) (k : Access) (r : Refusal) → map_good m ≡ true → legal_size k n ≡ true →
-      (check_access m s a n k).permission ≢ Refused r
+      (check_access m s a n k).permission ≢ Err (Refused r)
   -- "Supervisor: always allowed"
   pub check_supervisor : (m : Memory) (s : SystemState) (a n : ℕ) (k : Access) → map_good m ≡ true → legal_size k n ≡ true → s.user ≡ false →
-      check_access m s a n k ≡ access_answered s Allowed
+      check_access m s a n k ≡ access_answered s (Ok tt)
   -- "User, translation off": the regions decide, and a denied access is a protection fault
   pub check_regions : (m : Memory) (s : SystemState) (a n : ℕ) (k : Access) → map_good m ≡ true → legal_size k n ≡ true → s.user ≡ true → s.vm.enabled ≡ false →
-      check_access m s a n k ≡ access_answered s (cond (allows_of s a n k) Allowed (Denied (ProtectionFault k)))
+      check_access m s a n k ≡ access_answered s (cond (allows_of s a n k) (Ok tt) (Err (Denied (ProtectionFault k))))
   -- "User, translation on: page by page"
   pub check_pages : (m : Memory) (s : SystemState) (a n : ℕ) (k : Access) → map_good m ≡ true → legal_size k n ≡ true → s.user ≡ true → s.vm.enabled ≡ true →
       check_access m s a n k ≡ from_pages s (check_each m k s.vm (pages_of a n))
   -- ---- data: a load or store "finds each byte by looking up the TLB again"
   pub looked_up : (s : SystemState) (va n i : ℕ) → va < 2 ^ 32 → i < n → slice_index (spots s va n) i ≡ physical_of s ((va + i) % 2 ^ 32)
   -- "If the second page's fill took the first page's slot, the Rust uses physical page 0; so does the port"
-  pub stolen : (s : SystemState) (va : ℕ) → translating_of s ≡ true → slot_of s.vm va ≡ Nothing → physical_of s va ≡ va % 4096
+  pub stolen : (s : SystemState) (va : ℕ) → translating_of s ≡ true → slot_of s.vm va ≡ None → physical_of s va ≡ va % 4096
   -- "Memory is big-endian"
   pub big_endian_lem : (m : Memory) (p₀ p₁ p₂ p₃ b₀ b₁ b₂ b₃ : ℕ) → map_good m ≡ true →
-      byte_at m p₀ ≡ Value b₀ → byte_at m p₁ ≡ Value b₁ → byte_at m p₂ ≡ Value b₂ → byte_at m p₃ ≡ Value b₃ →
-      load_at m 4 (p₀ ∷ p₁ ∷ p₂ ∷ p₃ ∷ []) ≡ loaded.Value (big_endian (b₀ ∷ b₁ ∷ b₂ ∷ b₃ ∷ []))
+      byte_at m p₀ ≡ Some b₀ → byte_at m p₁ ≡ Some b₁ → byte_at m p₂ ≡ Some b₂ → byte_at m p₃ ≡ Some b₃ →
+      load_at m 4 (p₀ ∷ p₁ ∷ p₂ ∷ p₃ ∷ []) ≡ Ok (big_endian (b₀ ∷ b₁ ∷ b₂ ∷ b₃ ∷ []))
   -- "A load or fetch with any byte outside the map answers bus error and no value"
-  pub load_outside : (m : Memory) (n : ℕ) (l : List ℕ) (i : ℕ) → map_good m ≡ true → data_size n ≡ true → i < length l → byte_at m (slice_index l i) ≡ Outside →
-      load_at m n l ≡ loaded.BusError
+  pub load_outside : (m : Memory) (n : ℕ) (l : List ℕ) (i : ℕ) → map_good m ≡ true → data_size n ≡ true → i < length l → byte_at m (slice_index l i) ≡ None →
+      load_at m n l ≡ Err BusError
   -- "a store writes its inside bytes and answers bus error"
-  pub store_outside : (m : Memory) (n : ℕ) (l : List ℕ) → map_good m ≡ true → data_size n ≡ true → all_writable m l ≡ false → store_at m n l ≡ stored.BusError
+  pub store_outside : (m : Memory) (n : ℕ) (l : List ℕ) → map_good m ≡ true → data_size n ≡ true → all_writable m l ≡ false → store_at m n l ≡ Err BusError
   pub store_puts : (m : Memory) (n : ℕ) (l : List ℕ) (v : ℕ) → map_good m ≡ true → data_size n ≡ true → memory_at m n l v ≡ put_at m l (bytes_of n v)
-  pub inside_put : (m : Memory) (a b : ℕ) → writable m a ≡ true → byte_at (put_byte m a b) a ≡ Value b
+  pub inside_put : (m : Memory) (a b : ℕ) → writable m a ≡ true → byte_at (put_byte m a b) a ≡ Some b
   pub outside_kept : (m : Memory) (a b : ℕ) → writable m a ≡ false → put_byte m a b ≡ m
   -- ---- "`debug_translate` looks up or walks in any mode .. and checks no permission"
   pub debug_mode : (m : Memory) (s : SystemState) (va : ℕ) (user : Bool) → debug_translated m (with_user s user) va ≡ debug_translated m s va
-  pub debug_resident : (m : Memory) (s : SystemState) (va i : ℕ) → map_good m ≡ true → slot_of s.vm va ≡ At i →
-      debug_translated m s va ≡ mapped_to (slice_index_or s.vm.tlb i no_entry) va true
+  pub debug_resident : (m : Memory) (s : SystemState) (va i : ℕ) → map_good m ≡ true → slot_of s.vm va ≡ Some i →
+      debug_translated m s va ≡ Ok (mapped_to (slice_index_or s.vm.tlb i no_entry) va true)
   -- "a viewed slot's index [is] read modulo 16"
   pub view_index : (vm : Vm) (i : ℕ) → slot_view vm (i + 16) ≡ slot_view vm i

@@ -4,7 +4,7 @@
 --   new_tidy                                       == a new state's is
 --   check_tidy, write_tidy, trap_tidy, return_tidy == it stays so through a check, a register write, a trap and a return from one
 --   resident_check                                 == the check of an access inside a resident page: its entry decides, no table word is read and nothing changes
-use Rattle.std.specs.Prelude.{◌≡◌, ℕ, ◌+◌, ◌*◌, ◌/◌, ◌%◌, ◌^◌, ◌<◌, ◌≤◌, true, List, length, ◌==◌}
+use Rattle.std.specs.Prelude.{◌≡◌, ℕ, ◌+◌, ◌*◌, ◌/◌, ◌%◌, ◌^◌, ◌<◌, ◌≤◌, true, List, length, ◌==◌, Option, Some, None}
 use Rattle.std.proofs.Common.{ap, ◌∙◌}
 use Rattle.common.specs.Cases.{cond_holds}
 use Rattle.memory.specs.Gate.{map_good, access_gate}
@@ -18,7 +18,6 @@ use Rattle.mmu.specs.Resident.Laws.{flushed_slots, orderly_flushed, dropped_slot
 use Rattle.mmu.specs.Vm.{new_vm, flushed, slot_of}
 use Rattle.mmu.specs.Vm.Laws.{flushed_is}
 use Rattle.mmu.specs.declared.exception.Access.{Access}
-use Rattle.mmu.specs.declared.tlb.Slot.TheVariants as slot
 use Rattle.mmu.specs.declared.vm.Vm.{Vm}
 use Rattle.privilege.specs.Access.{legal_size, translating_of, permission_of, from_pages, check_legal, check_access}
 use Rattle.privilege.specs.Access.Laws.{legal_few, check_good, by_pages}
@@ -26,8 +25,6 @@ use Rattle.privilege.specs.Registers.{vm_ptbr, user_written, region_written, reg
 use Rattle.privilege.specs.State.{new_state, status_set, with_vm}
 use Rattle.privilege.specs.Trap.{trapped, returned, enters_user}
 use Rattle.privilege.specs.declared.check.AccessChecked.{AccessChecked}
-use Rattle.privilege.specs.declared.registers.RegionField.{RegionField}
-use Rattle.privilege.specs.declared.registers.RegionField.TheVariants.{At, Nothing}
 use Rattle.privilege.specs.declared.registers.SrWritten.{SrWritten}
 use Rattle.privilege.specs.declared.state.InstructionMode.{InstructionMode}
 use Rattle.privilege.specs.declared.state.SystemState.{SystemState}
@@ -57,7 +54,7 @@ module _ (m : Memory) (s : SystemState) (a n : ℕ) (k : Access) (small : a < 2 
   unfolding check_access
   check_tidy = gated_holds (λ (c : AccessChecked). Tidy c.sys) (access_gate m (legal_size k n)) legal_tidy (λ r. o)
 
-  pub resident_check : (i : ℕ) → map_good m ≡ true → legal_size k n ≡ true → translating_of s ≡ true → a % 4096 + n ≤ 4096 → slot_of s.vm a ≡ slot.At i
+  pub resident_check : (i : ℕ) → map_good m ≡ true → legal_size k n ≡ true → translating_of s ≡ true → a % 4096 + n ≤ 4096 → slot_of s.vm a ≡ Some i
       → check_access m s a n k ≡ record { sys = s; permission = permission_of (judged (in_slot s.vm.tlb i) k a); reads = 0 }
   resident_check i good legal on room at =
       let one = ap (check_each m k s.vm) (pages_one a n small (legal_few k n legal).0 room) ∙ each_page m k s.vm a in
@@ -75,9 +72,9 @@ module _ (s : SystemState) (o : Tidy s) where
   unfolding user_written
   user_tidy i v reg = cond_holds Left s.user o o
 
-  region_tidy : (v : ℕ) (reg : List ℕ) (p : RegionField) → Left (region_written s reg v p)
-  region_tidy v reg (At n f) = o
-  region_tidy v reg Nothing = o
+  region_tidy : (v : ℕ) (reg : List ℕ) (p : Option (ℕ × ℕ)) → Left (region_written s reg v p)
+  region_tidy v reg (Some (n, f)) = o
+  region_tidy v reg None = o
 
   pub write_tidy : (sr v : ℕ) (reg : List ℕ) → Tidy (sr_written s sr v reg).sys
   unfolding sr_written status_set

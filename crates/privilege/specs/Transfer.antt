@@ -9,22 +9,18 @@
 --
 -- `spots` is the one place where an access's addresses come from; loads and stores are over any list of addresses. A word
 -- inside a page is one lookup in the Rust and in the code; here every byte is looked up, and the two are proved equal.
-use Rattle.std.specs.Prelude.{ℕ, ◌+◌, ◌%◌, cond, List, map}
+use Rattle.std.specs.Prelude.{ℕ, ◌+◌, ◌%◌, cond, List, map, Option, Result, Ok, Err, ok_or}
 use Rattle.common.specs.Bytes.{bytes_of}
 use Rattle.common.specs.declared.Refusal.{Refusal}
 use Rattle.memory.specs.Gate.{gated, access_gate}
 use Rattle.memory.specs.Memory.{Memory, read_at, put_at, all_writable}
-use Rattle.memory.specs.declared.Content.{Content}
-use Rattle.memory.specs.declared.Content.TheVariants as content
+use Rattle.privilege.specs.declared.transfer.DataError.TheVariants.{BusError, Refused}
+use Rattle.privilege.specs.declared.transfer.DataError.{DataError}
 use Rattle.mmu.specs.Check.{page_addr}
 use Rattle.mmu.specs.Vm.{frame_of}
 use Rattle.privilege.specs.Access.{data_size, translating_of}
 use Rattle.privilege.specs.Addresses.{addresses}
 use Rattle.privilege.specs.declared.state.SystemState.{SystemState}
-use Rattle.privilege.specs.declared.transfer.DataRead.{DataRead}
-use Rattle.privilege.specs.declared.transfer.DataRead.TheVariants as read
-use Rattle.privilege.specs.declared.transfer.DataWritten.{DataWritten}
-use Rattle.privilege.specs.declared.transfer.DataWritten.TheVariants as written
 pub mod Laws
 
 abbrev pub joined_to : ℕ → ℕ → ℕ
@@ -37,25 +33,24 @@ unfoldable pub spots : SystemState → ℕ → ℕ → List ℕ
 spots s va n = map (physical_of s) (addresses n va)
 
 -- "A load .. with any byte outside the map answers bus error and no value"
-abbrev pub read_of : Content → DataRead
-read_of (content.Value v) = read.Value v
-read_of content.Outside = read.BusError
+abbrev pub read_of : Option ℕ → Result ℕ DataError
+read_of c = ok_or c BusError
 
 -- a load of n bytes from any addresses
-unfoldable pub load_at : Memory → ℕ → List ℕ → DataRead
-load_at m n l = gated (access_gate m (data_size n)) (read_of (read_at m l)) (λ (r : Refusal). read.Refused r)
+unfoldable pub load_at : Memory → ℕ → List ℕ → Result ℕ DataError
+load_at m n l = gated (access_gate m (data_size n)) (read_of (read_at m l)) (λ (r : Refusal). Err (Refused r))
 
 -- "a store writes its inside bytes and answers bus error"
-unfoldable pub store_at : Memory → ℕ → List ℕ → DataWritten
-store_at m n l = gated (access_gate m (data_size n)) (cond (all_writable m l) written.Done written.BusError) (λ (r : Refusal). written.Refused r)
+unfoldable pub store_at : Memory → ℕ → List ℕ → Result (Unit {0}) DataError
+store_at m n l = gated (access_gate m (data_size n)) (cond (all_writable m l) (Ok tt) (Err BusError)) (λ (r : Refusal). Err (Refused r))
 
 unfoldable pub memory_at : Memory → ℕ → List ℕ → ℕ → Memory
 memory_at m n l v = gated (access_gate m (data_size n)) (put_at m l (bytes_of n v)) (λ (r : Refusal). m)
 
-abbrev pub data_read : Memory → SystemState → ℕ → ℕ → DataRead
+abbrev pub data_read : Memory → SystemState → ℕ → ℕ → Result ℕ DataError
 data_read m s va n = load_at m n (spots s va n)
 
-abbrev pub data_written : Memory → SystemState → ℕ → ℕ → DataWritten
+abbrev pub data_written : Memory → SystemState → ℕ → ℕ → Result (Unit {0}) DataError
 data_written m s va n = store_at m n (spots s va n)
 
 abbrev pub memory_after : Memory → SystemState → ℕ → ℕ → ℕ → Memory

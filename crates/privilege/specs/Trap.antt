@@ -10,7 +10,6 @@ use Rattle.std.specs.Prelude.{ℕ, Bool, true, false, cond, not, ◌&&◌, List,
 use Rattle.privilege.specs.State.{with_status, with_ie, with_user, with_epc, with_cause, with_other}
 use Rattle.privilege.specs.declared.state.InstructionMode.{InstructionMode}
 use Rattle.privilege.specs.declared.state.SystemState.{SystemState}
-use Rattle.privilege.specs.declared.trap.Exchanged.{Exchanged}
 use Rattle.privilege.specs.declared.trap.Trapped.{Trapped}
 use Rattle.privilege.specs.declared.trap.Returned.{Returned}
 
@@ -20,7 +19,7 @@ bank_of reg = slice_index reg 28 ∷ slice_index reg 29 ∷ slice_index reg 30 �
 abbrev pub with_bank : List ℕ → List ℕ → List ℕ
 with_bank reg b = slice_set (slice_set (slice_set reg 28 (slice_index b 0)) 29 (slice_index b 1)) 30 (slice_index b 2)
 
-abbrev pub exchanged : SystemState → List ℕ → Exchanged
+abbrev pub exchanged : SystemState → List ℕ → Trapped
 exchanged s reg = record { sys = with_other s (bank_of reg); reg = with_bank reg s.other_bank }
 
 -- "A trap stores EPC, CAUSE and mode, copies IE to PIE and U to PU, clears IE, and leaves user mode"
@@ -31,8 +30,7 @@ saved s epc cause mode = with_cause (with_epc (with_status s false s.ie false s.
 unfoldable pub trapped : SystemState → List ℕ → ℕ → ℕ → InstructionMode → Trapped
 trapped s reg epc cause mode =
     let t = saved s epc cause mode in
-    let e = exchanged t reg in
-    cond s.user (record { sys = e.sys; reg = e.reg }) (record { sys = t; reg = reg })
+    cond s.user (exchanged t reg) (record { sys = t; reg = reg })
 
 abbrev pub enters_user : SystemState → Bool
 enters_user s = s.pu && not s.user

@@ -1,18 +1,17 @@
 // The check of an access in any mode.
 ghost use Rattle.std.specs.Prelude.{◌≡◌};
 ghost use Rattle.memory.specs.Memory.{lent};
-ghost use Rattle.privilege.specs.Access.{fetch_size, data_size, legal_size, translating_of, allows_of, permission_of, access_answered, check_legal, check_access};
+ghost use Rattle.privilege.specs.Access.{fetch_size, data_size, legal_size, translating_of, allows_of, access_answered, check_legal, check_access};
 
 use crate::region::all_allowed;
 use crate::state::SystemState;
 use common::Refusal;
-use memory::gate::{is_open, refusal};
-use mmu::check::Verdict;
+use memory::gate::admit;
 use mmu::exception::{Access, Exception};
 
+// Why an access is not permitted: the exception to raise, or a refusal.
 #[derive(Clone, Copy)]
-pub enum Permission {
-    Allowed,
+pub enum AccessError {
     Denied(Exception),
     Refused(Refusal),
 }
@@ -20,29 +19,25 @@ pub enum Permission {
 #[derive(Drop)]
 pub struct AccessChecked {
     pub sys: SystemState,
-    pub permission: Permission,
+    pub permission: Result<(), AccessError>,
     // Table words read.
     pub reads: u32,
 }
 
 // The sizes of a fetch.
+#[tactic(auto, unfolding(crate::specs::Access::fetch_size))]
 fn fetch_size(size: u32) -> bool
     ensures { result ≡ fetch_size size }
 {
-    if size == 2 {
-        return true;
-    }
-    size == 4
+    size == 2 || size == 4
 }
 
 // The sizes of a load or store.
+#[tactic(auto, unfolding(crate::specs::Access::data_size))]
 pub fn data_size(size: u32) -> bool
     ensures { result ≡ data_size size }
 {
-    if size == 1 {
-        return true;
-    }
-    fetch_size(size)
+    size == 1 || fetch_size(size)
 }
 
 // A word is legal for every access, and frequent: it is asked first.
@@ -59,16 +54,7 @@ pub(crate) fn legal_size(size: u32, access: Access) -> bool
     }
 }
 
-pub(crate) fn permission_of(verdict: Verdict) -> Permission
-    ensures { result ≡ permission_of verdict }
-{
-    match verdict {
-        Verdict::Allowed => Permission::Allowed,
-        Verdict::Denied(e) => Permission::Denied(e),
-    }
-}
-
-fn answer(sys: SystemState, permission: Permission) -> AccessChecked
+fn answer(sys: SystemState, permission: Result<(), AccessError>) -> AccessChecked
     ensures { result ≡ access_answered sys permission }
 {
     AccessChecked {
@@ -80,24 +66,19 @@ fn answer(sys: SystemState, permission: Permission) -> AccessChecked
 
 impl SystemState {
     // A user's accesses are translated.
+    #[tactic(auto, unfolding(crate::specs::Access::translating_of))]
     pub fn translating(self) -> bool
         ensures { result ≡ translating_of self }
     {
-        if self.user {
-            return self.vm.enabled;
-        }
-        false
+        self.user && self.vm.enabled
     }
 
     // A supervisor's access is never checked; of a user's every byte needs a region that grants it.
+    #[tactic(auto, unfolding(crate::specs::Access::allows_of))]
     pub fn allows(self, addr: u32, len: u32, access: Access) -> bool
         ensures { result ≡ allows_of self addr len access }
     {
-        if self.user {
-            let regions = self.regions;
-            return all_allowed(regions, addr, len, access);
-        }
-        true
+        !self.user || all_allowed(self.regions, addr, len, access)
     }
 
     // Whether the current mode may make this access. A denied one yields the exception to raise; nothing has been read or
@@ -112,10 +93,10 @@ impl SystemState {
     ) -> AccessChecked
         ensures { result ≡ check_access (lent base mem.now) self addr len access }
     {
-        if is_open(mem, base, legal_size(len, access)) {
-            return self.check_legal(mem, base, addr, len, access);
+        match admit(mem, base, legal_size(len, access)) {
+            Ok(()) => self.check_legal(mem, base, addr, len, access),
+            Err(refusal) => answer(self, Err(AccessError::Refused(refusal))),
         }
-        answer(self, Permission::Refused(refusal(mem, base)))
     }
 
     // An access of a legal size over a good map.
@@ -130,20 +111,20 @@ impl SystemState {
         ensures { result ≡ check_legal (lent base mem.now) self addr len access }
     {
         if self.translating() {
-            let vm = self.vm;
-            let checked = vm.check_pages(mem, base, addr, len, access);
-            let after = checked.vm;
-            let verdict = checked.verdict;
-            self.vm = after;
+            let checked = self.vm.check_pages(mem, base, addr, len, access);
+            self.vm = checked.vm;
             return AccessChecked {
                 sys: self,
-                permission: permission_of(verdict),
+                permission: checked.verdict.map_err(AccessError::Denied),
                 reads: checked.reads,
             };
         }
         if self.allows(addr, len, access) {
-            return answer(self, Permission::Allowed);
+            return answer(self, Ok(()));
         }
-        answer(self, Permission::Denied(Exception::ProtectionFault(access)))
+        answer(
+            self,
+            Err(AccessError::Denied(Exception::ProtectionFault(access))),
+        )
     }
 }

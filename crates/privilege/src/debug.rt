@@ -8,9 +8,9 @@ ghost use Rattle.privilege.specs.Debug.{flags_of, mapped_to, by_walk, by_slot, d
 use crate::state::SystemState;
 use crate::transfer::join;
 use common::Refusal;
-use memory::gate::{is_open, refusal};
-use mmu::tlb::{Slot, TLB_ENTRIES, TlbEntry};
-use mmu::walk::{PTE_R, PTE_U, PTE_W, PTE_X, Walked, walk};
+use memory::gate::admit;
+use mmu::tlb::{TLB_ENTRIES, TlbEntry};
+use mmu::walk::{PTE_R, PTE_U, PTE_W, PTE_X, WalkFault, walk};
 
 #[derive(Drop)]
 pub struct TlbFlags {
@@ -42,7 +42,6 @@ pub enum DebugTranslation {
     Unmapped,
     // A table word could not be read.
     BusError,
-    Refused(Refusal),
 }
 
 impl TlbFlags {
@@ -70,13 +69,16 @@ fn mapped(entry: TlbEntry, va: u32, in_tlb: bool) -> DebugTranslation
 
 impl SystemState {
     // Translates in any mode, fills nothing and checks no permission.
-    pub fn debug_translate(self, mem: &[u8], base: u32, va: u32) -> DebugTranslation
+    pub fn debug_translate(
+        self,
+        mem: &[u8],
+        base: u32,
+        va: u32,
+    ) -> Result<DebugTranslation, Refusal>
         ensures { result ≡ debug_translated (lent base mem.now) self va }
     {
-        if is_open(mem, base, true) {
-            return self.debug_lookup(mem, base, va);
-        }
-        DebugTranslation::Refused(refusal(mem, base))
+        admit(mem, base, true)?;
+        Ok(self.debug_lookup(mem, base, va))
     }
 
     // The page's entry in the TLB, or what a walk finds.
@@ -84,25 +86,19 @@ impl SystemState {
         ensures { result ≡ by_slot self.vm va (walk_of (lent base mem.now) self.vm.ptbr va).walked (slot_of self.vm va) }
     {
         let vm = self.vm;
-        let slot = vm.lookup(va >> 12);
-        match slot {
-            Slot::At(i) => {
-                let entry = vm.tlb[i];
-                mapped(entry, va, true)
-            }
-            Slot::Nothing => self.debug_walk(mem, base, va),
+        match vm.lookup(va >> 12) {
+            Some(i) => mapped(vm.tlb[i], va, true),
+            None => self.debug_walk(mem, base, va),
         }
     }
 
     fn debug_walk(self, mem: &[u8], base: u32, va: u32) -> DebugTranslation
         ensures { result ≡ by_walk va (walk_of (lent base mem.now) self.vm.ptbr va).walked }
     {
-        let answer = walk(mem, base, self.vm.ptbr, va);
-        let walked = answer.walked;
-        match walked {
-            Walked::Leaf(entry) => mapped(entry, va, false),
-            Walked::Missing => DebugTranslation::Unmapped,
-            Walked::BusError => DebugTranslation::BusError,
+        match walk(mem, base, self.vm.ptbr, va).walked {
+            Ok(entry) => mapped(entry, va, false),
+            Err(WalkFault::Missing) => DebugTranslation::Unmapped,
+            Err(WalkFault::BusError) => DebugTranslation::BusError,
         }
     }
 

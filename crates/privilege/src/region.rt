@@ -31,6 +31,7 @@ impl Region {
     }
 
     // START, END and FLAGS, as a register's place in its region.
+    #[tactic(auto, unfolding(crate::specs::Region::field_of))]
     pub fn field(self, field: usize) -> u32
         ensures { result ≡ field_of self field }
     {
@@ -41,6 +42,7 @@ impl Region {
         }
     }
 
+    #[tactic(auto, unfolding(crate::specs::Region::with_field))]
     pub fn with_field(mut self, field: usize, value: u32) -> Self
         ensures { result ≡ with_field self field value }
     {

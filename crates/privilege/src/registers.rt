@@ -35,47 +35,29 @@ pub const SR_TLBINV: u16 = 0x44;
 pub const VCTL_EN: u32 = 1;
 
 #[derive(Drop)]
-pub enum SrRead {
-    Value(u32),
-    Refused(Refusal),
-}
-
-#[derive(Drop)]
-pub enum SrAnswer {
-    Done,
-    Refused(Refusal),
-}
-
-#[derive(Drop)]
 pub struct SrWritten {
     pub sys: SystemState,
     pub reg: [u32; 32],
-    pub answer: SrAnswer,
+    pub answer: Result<(), Refusal>,
 }
 
 // A region's number and the field's place in it.
-#[derive(Drop)]
-pub enum RegionField {
-    At(usize, usize),
-    Nothing,
-}
-
-pub fn region_field(sr: u16) -> RegionField
+pub fn region_field(sr: u16) -> Option<(usize, usize)>
     ensures { result ≡ region_field sr }
 {
     if sr < SR_REGION_BASE {
-        return RegionField::Nothing;
+        return None;
     }
     let offset = (sr - SR_REGION_BASE) as usize;
     let region = offset / 4;
     let field = offset % 4;
     if region >= REGION_COUNT {
-        return RegionField::Nothing;
+        return None;
     }
     if field < 3 {
-        RegionField::At(region, field)
+        Some((region, field))
     } else {
-        RegionField::Nothing
+        None
     }
 }
 
@@ -85,20 +67,20 @@ fn done(sys: SystemState, reg: [u32; 32]) -> SrWritten
     SrWritten {
         sys,
         reg,
-        answer: SrAnswer::Done,
+        answer: Ok(()),
     }
 }
 
 impl SystemState {
     // The user's R28 to R30: in user mode the live registers, else the saved bank.
-    fn read_user(self, index: usize, reg: [u32; 32]) -> SrRead
+    fn read_user(self, index: usize, reg: [u32; 32]) -> u32
         requires { index < 3 }
-        ensures { result ≡ SrRead.Value (user_read self index reg) }
+        ensures { result ≡ user_read self index reg }
     {
         if self.user {
-            return SrRead::Value(reg[BANK_FIRST + index]);
+            return reg[BANK_FIRST + index];
         }
-        SrRead::Value(self.other_bank[index])
+        self.other_bank[index]
     }
 
     fn write_user(mut self, index: usize, value: u32, reg: [u32; 32]) -> SrWritten
@@ -114,50 +96,43 @@ impl SystemState {
         done(self, reg)
     }
 
-    fn read_region(self, sr: u16) -> SrRead
+    fn read_region(self, sr: u16) -> Result<u32, Refusal>
         ensures { result ≡ region_read self (region_field sr) }
     {
-        let place = region_field(sr);
-        let RegionField::At(n, field) = place else {
-            return SrRead::Refused(Refusal::Register);
-        };
-        let region = self.regions[n];
-        SrRead::Value(region.field(field))
+        let (n, field) = region_field(sr).ok_or(Refusal::Register)?;
+        Ok(self.regions[n].field(field))
     }
 
     fn write_region(mut self, sr: u16, value: u32, reg: [u32; 32]) -> SrWritten
         ensures { result ≡ region_written self reg value (region_field sr) }
     {
-        let place = region_field(sr);
-        let RegionField::At(n, field) = place else {
+        let Some((n, field)) = region_field(sr) else {
             return SrWritten {
                 sys: self,
                 reg,
-                answer: SrAnswer::Refused(Refusal::Register),
+                answer: Err(Refusal::Register),
             };
         };
-        let old = self.regions;
-        let left = write_field(old, n, field, value);
-        self.regions = left;
+        self.regions = write_field(self.regions, n, field, value);
         done(self, reg)
     }
 
     // MFSR.
-    pub fn read_sr(self, sr: u16, reg: [u32; 32]) -> SrRead
+    pub fn read_sr(self, sr: u16, reg: [u32; 32]) -> Result<u32, Refusal>
         ensures { result ≡ sr_read self sr reg }
     {
         match sr {
-            SR_STATUS => SrRead::Value(self.status()),
-            SR_EPC => SrRead::Value(self.epc),
-            SR_CAUSE => SrRead::Value(self.cause),
-            SR_USP => self.read_user(0, reg),
-            SR_UFP => self.read_user(1, reg),
-            SR_UGP => self.read_user(2, reg),
-            SR_VCTL => SrRead::Value(self.vm.enabled as u32),
-            SR_PTBR => SrRead::Value(self.vm.ptbr),
-            SR_VFAULT => SrRead::Value(self.vm.vfault),
-            SR_TLBFLUSH => SrRead::Value(0),
-            SR_TLBINV => SrRead::Value(0),
+            SR_STATUS => Ok(self.status()),
+            SR_EPC => Ok(self.epc),
+            SR_CAUSE => Ok(self.cause),
+            SR_USP => Ok(self.read_user(0, reg)),
+            SR_UFP => Ok(self.read_user(1, reg)),
+            SR_UGP => Ok(self.read_user(2, reg)),
+            SR_VCTL => Ok(self.vm.enabled as u32),
+            SR_PTBR => Ok(self.vm.ptbr),
+            SR_VFAULT => Ok(self.vm.vfault),
+            SR_TLBFLUSH => Ok(0),
+            SR_TLBINV => Ok(0),
             _ => self.read_region(sr),
         }
     }

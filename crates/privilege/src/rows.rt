@@ -1,31 +1,36 @@
 // The data of an access, given where its bytes are: no byte is looked up again. Inside a page they stand in one row; over two
 // pages an access goes byte by byte.
-ghost use Rattle.std.specs.Prelude.{◌≡◌, ℕ, ◌<◌, ◌≤◌, true};
+ghost use Rattle.std.specs.Prelude.{◌≡◌, ℕ, ◌<◌, ◌≤◌, true, Some};
 ghost use Rattle.common.specs.Bytes.{bytes_of};
 ghost use Rattle.memory.specs.Gate.{map_good};
 ghost use Rattle.memory.specs.Memory.{lent, byte_at, read_at, writable, put_byte, put_at, all_writable};
-ghost use Rattle.privilege.specs.Rows.{place_of, rows_of};
+ghost use Rattle.privilege.specs.Rows.{place_of, rows_of, places_by, Stands};
 ghost use Rattle.privilege.specs.Transfer.{load_at, store_at, memory_at};
 
 use crate::check::data_size;
 use crate::state::PAGE_SIZE;
-use crate::transfer::{DataRead, DataWritten, and, byte_of, read_of, written_of};
-use memory::gate::{is_open, refusal};
+use crate::transfer::DataError;
+use memory::gate::admit;
 use memory::span::{put_half, put_word, read_half};
-use memory::{Content, MAP_END, put_byte, read_byte, read_word};
+use memory::{MAP_END, put_byte, read_byte, read_word};
 
 // Big-endian load of 1, 2 or 4 bytes: `pa` is where the first byte is, `pb` where the second page starts.
-pub fn read_rows(mem: &[u8], base: u32, addr: u32, size: u32, pa: u32, pb: u32) -> DataRead
+pub fn read_rows(
+    mem: &[u8],
+    base: u32,
+    addr: u32,
+    size: u32,
+    pa: u32,
+    pb: u32,
+) -> Result<u32, DataError>
     ensures { result ≡ load_at (lent base mem.now) size (rows_of addr size pa pb) }
 {
-    if is_open(mem, base, data_size(size)) {
-        return read_of(read_there(mem, base, addr, size, pa, pb));
-    }
-    DataRead::Refused(refusal(mem, base))
+    admit(mem, base, data_size(size))?;
+    read_there(mem, base, addr, size, pa, pb).ok_or(DataError::BusError)
 }
 
 // A word, a half or a byte inside its page, or any bytes one by one.
-fn read_there(mem: &[u8], base: u32, addr: u32, size: u32, pa: u32, pb: u32) -> Content
+fn read_there(mem: &[u8], base: u32, addr: u32, size: u32, pa: u32, pb: u32) -> Option<u32>
     requires { (size ≤ 4) × (map_good (lent base mem.now) ≡ true) }
     ensures { result ≡ read_at (lent base mem.now) (rows_of addr size pa pb) }
 {
@@ -42,7 +47,7 @@ fn read_there(mem: &[u8], base: u32, addr: u32, size: u32, pa: u32, pb: u32) -> 
             return read_half(mem, base, pa);
         }
     }
-    read_apart(mem, base, addr, size, pa, pb)
+    read_each(mem, base, size, |i| place(addr, pa, pb, i))
 }
 
 // Where byte `i` is. An address that passes 32 bits does not wrap.
@@ -57,13 +62,13 @@ fn place(addr: u32, pa: u32, pb: u32, i: u32) -> u64
 }
 
 // A good map ends before such an address.
-fn read_place(mem: &[u8], base: u32, at: u64) -> Content
+fn read_place(mem: &[u8], base: u32, at: u64) -> Option<u32>
     requires { map_good (lent base mem.now) ≡ true }
     ensures value { result ≡ byte_at (lent base mem.now) at }
-    ensures by_index { (b : ℕ) → result ≡ Content.Value b → b < 256 }
+    ensures by_index { (b : ℕ) → result ≡ Some b → b < 256 }
 {
     if at >= MAP_END {
-        return Content::Outside;
+        return None;
     }
     read_byte(mem, base, at as u32)
 }
@@ -78,23 +83,23 @@ fn put_place(mem: &mut [u8], base: u32, at: u64, b: u8) -> bool
     put_byte(mem, base, at as u32, b)
 }
 
-fn read_apart(mem: &[u8], base: u32, addr: u32, size: u32, pa: u32, pb: u32) -> Content
-    requires { (size ≤ 4) × (map_good (lent base mem.now) ≡ true) }
-    ensures { result ≡ read_at (lent base mem.now) (rows_of addr size pa pb) }
+// Big-endian load of bytes each of which may stand anywhere: byte `i` at `place(i)`.
+pub(crate) fn read_each<F: Fn(u32) -> u64>(
+    mem: &[u8],
+    base: u32,
+    size: u32,
+    place: F,
+) -> Option<u32>
+    requires small { size ≤ 4 }
+    requires good { map_good (lent base mem.now) ≡ true }
+    requires answers { F.IsAlwaysCallable place }
+    ensures { (at : ℕ → ℕ) → Stands (F.post place) at → result ≡ read_at (lent base mem.now) (places_by at 0 size) }
 {
-    let mut value: u32 = 0;
-    let mut i: u32 = 0;
-    loop {
-        if i >= size {
-            break Content::Value(value);
-        }
-        let byte = read_place(mem, base, place(addr, pa, pb, i));
-        let Content::Value(b) = byte else {
-            break Content::Outside;
-        };
-        value = value * 256 + b;
-        i += 1;
+    let mut value = 0;
+    for i in 0..size {
+        value = value * 256 + read_place(mem, base, place(i))?;
     }
+    Some(value)
 }
 
 // Big-endian store of 1, 2 or 4 bytes. Bytes outside are not written, the others are.
@@ -106,13 +111,12 @@ pub fn write_rows(
     pa: u32,
     pb: u32,
     value: u32,
-) -> DataWritten
+) -> Result<(), DataError>
     ensures { (result ≡ store_at (lent base mem.old) size (rows_of addr size pa pb)) × (mem.new ≡ (memory_at (lent base mem.old) size (rows_of addr size pa pb) value).bytes) }
 {
-    if is_open(mem, base, data_size(size)) {
-        return written_of(write_there(mem, base, addr, size, pa, pb, value));
-    }
-    DataWritten::Refused(refusal(mem, base))
+    admit(mem, base, data_size(size))?;
+    let all = write_there(mem, base, addr, size, pa, pb, value);
+    all.then_some(()).ok_or(DataError::BusError)
 }
 
 // A word, a half or a byte inside its page, or any bytes one by one: whether all were writable.
@@ -141,28 +145,26 @@ fn write_there(
             return put_half(mem, base, pa, value);
         }
     }
-    write_apart(mem, base, addr, size, pa, pb, value)
+    write_each(mem, base, size, value, |i| place(addr, pa, pb, i))
 }
 
-fn write_apart(
+// Big-endian store of bytes each of which may stand anywhere: byte `i` at `place(i)`. Whether all were writable.
+pub(crate) fn write_each<F: Fn(u32) -> u64>(
     mem: &mut [u8],
     base: u32,
-    addr: u32,
     size: u32,
-    pa: u32,
-    pb: u32,
     value: u32,
+    place: F,
 ) -> bool
-    requires { (size ≤ 4) × (map_good (lent base mem.old) ≡ true) }
-    ensures { (result ≡ all_writable (lent base mem.old) (rows_of addr size pa pb)) × (mem.new ≡ (put_at (lent base mem.old) (rows_of addr size pa pb) (bytes_of size value)).bytes) }
+    requires small { size ≤ 4 }
+    requires good { map_good (lent base mem.old) ≡ true }
+    requires answers { F.IsAlwaysCallable place }
+    ensures { (at : ℕ → ℕ) → Stands (F.post place) at → (result ≡ all_writable (lent base mem.old) (places_by at 0 size)) × (mem.new ≡ (put_at (lent base mem.old) (places_by at 0 size) (bytes_of size value)).bytes) }
 {
+    let bytes = value.to_be_bytes();
     let mut all = true;
-    let mut i: u32 = 0;
-    while i < size {
-        let at = place(addr, pa, pb, i);
-        let was = put_place(mem, base, at, byte_of(value, size - i - 1));
-        all = and(all, was);
-        i += 1;
+    for i in 0..size {
+        all &= put_place(mem, base, place(i), bytes[(4 - size + i) as usize]);
     }
     all
 }

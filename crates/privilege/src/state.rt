@@ -42,13 +42,11 @@ pub struct SystemState {
     pub vm: Vm,
 }
 
+// The theorem of all contracts names this function and the next, where a `From` would have no name.
 pub fn is_short(mode: InstructionMode) -> bool
     ensures { result ≡ is_short mode }
 {
-    match mode {
-        InstructionMode::Normal => false,
-        InstructionMode::Short => true,
-    }
+    matches!(mode, InstructionMode::Short)
 }
 
 pub fn mode_of(short: bool) -> InstructionMode
@@ -80,10 +78,10 @@ pub(crate) fn status_word(ie: bool, pie: bool, user: bool, pu: bool, short: bool
 }
 
 impl SystemState {
+    #[tactic(auto, unfolding(crate::specs::State::no_regions))]
     pub fn new() -> Self
         ensures { result ≡ new_state }
     {
-        let vm = Vm::new();
         let region = Region {
             start: 0,
             end: 0,
@@ -99,15 +97,14 @@ impl SystemState {
             cause: 0,
             other_bank: [0; 3],
             regions: [region; 8],
-            vm,
+            vm: Vm::new(),
         }
     }
 
     pub fn status(self) -> u32
         ensures { result ≡ status_of self }
     {
-        let psm = self.psm;
-        status_word(self.ie, self.pie, self.user, self.pu, is_short(psm))
+        status_word(self.ie, self.pie, self.user, self.pu, is_short(self.psm))
     }
 
     // The same state with other STATUS bits.
@@ -121,20 +118,13 @@ impl SystemState {
     ) -> Self
         ensures { result ≡ with_status self ie pie user pu psm }
     {
-        let other_bank = self.other_bank;
-        let regions = self.regions;
-        let vm = self.vm;
         Self {
             ie,
             pie,
             user,
             pu,
             psm,
-            epc: self.epc,
-            cause: self.cause,
-            other_bank,
-            regions,
-            vm,
+            ..self
         }
     }
 
@@ -142,13 +132,12 @@ impl SystemState {
     pub fn set_status(self, value: u32) -> Self
         ensures { result ≡ status_set self value }
     {
-        let psm = mode_of(value & STATUS_PSM != 0);
         self.with_status(
             value & STATUS_IE != 0,
             value & STATUS_PIE != 0,
             self.user,
             value & STATUS_PU != 0,
-            psm,
+            mode_of(value & STATUS_PSM != 0),
         )
     }
 }

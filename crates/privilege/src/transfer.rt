@@ -1,27 +1,30 @@
 // Data access after a successful check: where a byte is, loads and stores.
-ghost use Rattle.std.specs.Prelude.{◌≡◌, ◌/◌, ◌%◌, ◌^◌, ◌<◌, ◌≤◌, ◌&&◌, if◌then◌else◌};
-ghost use Rattle.common.specs.Bytes.{bytes_of};
-ghost use Rattle.memory.specs.Memory.{lent, read_at, put_at, all_writable};
-ghost use Rattle.privilege.specs.Transfer.{joined_to, physical_of, spots, data_read, data_written, memory_after, read_of};
+ghost use Rattle.std.specs.Prelude.{◌≡◌, ◌≤◌, true};
+ghost use Rattle.memory.specs.Gate.{map_good};
+ghost use Rattle.memory.specs.Memory.{lent, read_at};
+ghost use Rattle.privilege.specs.Transfer.{joined_to, physical_of, spots, data_read, data_written, memory_after};
+ghost use Rattle.privilege.specs.declared.transfer.DataError.TheVariants.{Refused};
 
 use crate::check::data_size;
+use crate::rows::{read_each, write_each};
 use crate::state::{PAGE_SIZE, SystemState};
 use common::Refusal;
-use memory::gate::{is_open, refusal};
-use memory::{Content, put_byte, read_byte, read_word};
+use memory::gate::admit;
+use memory::read_word;
 
-#[derive(Drop)]
-pub enum DataRead {
-    Value(u32),
+// Why an access has no data: a byte outside the map, or a refusal.
+#[derive(Clone, Copy)]
+pub enum DataError {
     BusError,
     Refused(Refusal),
 }
 
-#[derive(Drop)]
-pub enum DataWritten {
-    Done,
-    BusError,
-    Refused(Refusal),
+impl From<Refusal> for DataError {
+    ghost from_gives = { λ r e. e ≡ Refused r };
+
+    fn from(refusal: Refusal) -> Self {
+        DataError::Refused(refusal)
+    }
 }
 
 // The address of `va`'s byte in a physical page.
@@ -29,39 +32,6 @@ pub fn join(ppn: u32, va: u32) -> u32
     ensures { result ≡ joined_to ppn va }
 {
     (ppn << 12) | (va & (PAGE_SIZE - 1))
-}
-
-// Byte `place` of a value, counted from the lowest.
-pub(crate) fn byte_of(value: u32, place: u32) -> u8
-    requires { place < 4 }
-    ensures { result ≡ value / 256 ^ place % 256 }
-{
-    ((value >> (8 * place)) % 256) as u8
-}
-
-pub(crate) fn and(a: bool, b: bool) -> bool
-    ensures { result ≡ a && b }
-{
-    if a { b } else { false }
-}
-
-pub(crate) fn read_of(content: Content) -> DataRead
-    ensures { result ≡ read_of content }
-{
-    match content {
-        Content::Value(value) => DataRead::Value(value),
-        Content::Outside => DataRead::BusError,
-    }
-}
-
-pub(crate) fn written_of(all: bool) -> DataWritten
-    ensures { result ≡ (if all then DataWritten.Done else DataWritten.BusError) }
-{
-    if all {
-        DataWritten::Done
-    } else {
-        DataWritten::BusError
-    }
 }
 
 impl SystemState {
@@ -77,47 +47,30 @@ impl SystemState {
     }
 
     // Big-endian load of 1, 2 or 4 bytes.
-    pub fn read_data(self, mem: &[u8], base: u32, va: u32, size: u32) -> DataRead
+    pub fn read_data(self, mem: &[u8], base: u32, va: u32, size: u32) -> Result<u32, DataError>
         ensures { result ≡ data_read (lent base mem.now) self va size }
     {
-        if is_open(mem, base, data_size(size)) {
-            return read_of(self.read_spots(mem, base, va, size));
-        }
-        DataRead::Refused(refusal(mem, base))
+        admit(mem, base, data_size(size))?;
+        self.read_spots(mem, base, va, size)
+            .ok_or(DataError::BusError)
     }
 
     // A word inside a page takes one lookup.
-    fn read_spots(self, mem: &[u8], base: u32, va: u32, size: u32) -> Content
-        requires { size ≤ 4 }
+    fn read_spots(self, mem: &[u8], base: u32, va: u32, size: u32) -> Option<u32>
+        requires { (size ≤ 4) × (map_good (lent base mem.now) ≡ true) }
         ensures { result ≡ read_at (lent base mem.now) (spots self va size) }
     {
-        if va % PAGE_SIZE <= PAGE_SIZE - 4 {
-            if size == 4 {
+        if size == 4 {
+            if va % PAGE_SIZE <= PAGE_SIZE - 4 {
                 return read_word(mem, base, self.physical(va));
             }
         }
-        self.read_bytes(mem, base, va, size)
-    }
-
-    fn read_bytes(self, mem: &[u8], base: u32, va: u32, size: u32) -> Content
-        requires { size ≤ 4 }
-        ensures { result ≡ read_at (lent base mem.now) (spots self va size) }
-    {
-        let mut value: u32 = 0;
-        let mut at = va;
-        let mut left = size;
-        loop {
-            if left == 0 {
-                break Content::Value(value);
-            }
-            let byte = read_byte(mem, base, self.physical(at));
-            let Content::Value(b) = byte else {
-                break Content::Outside;
-            };
-            value = value * 256 + b;
-            at = std::num::wrapping_add_u32(at, 1);
-            left -= 1;
-        }
+        read_each(
+            mem,
+            base,
+            size,
+            |i| self.physical(va.wrapping_add(i)) as u64,
+        )
     }
 
     // Big-endian store of 1, 2 or 4 bytes. Bytes outside are not written, the others are.
@@ -128,29 +81,13 @@ impl SystemState {
         va: u32,
         size: u32,
         value: u32,
-    ) -> DataWritten
+    ) -> Result<(), DataError>
         ensures { (result ≡ data_written (lent base mem.old) self va size) × (mem.new ≡ (memory_after (lent base mem.old) self va size value).bytes) }
     {
-        if is_open(mem, base, data_size(size)) {
-            return written_of(self.write_bytes(mem, base, va, size, value));
-        }
-        DataWritten::Refused(refusal(mem, base))
-    }
-
-    // Whether all bytes were inside.
-    fn write_bytes(self, mem: &mut [u8], base: u32, va: u32, size: u32, value: u32) -> bool
-        requires { size ≤ 4 }
-        ensures { (result ≡ all_writable (lent base mem.old) (spots self va size)) × (mem.new ≡ (put_at (lent base mem.old) (spots self va size) (bytes_of size value)).bytes) }
-    {
-        let mut all = true;
-        let mut at = va;
-        let mut left = size;
-        while left > 0 {
-            left -= 1;
-            let was = put_byte(mem, base, self.physical(at), byte_of(value, left));
-            all = and(all, was);
-            at = std::num::wrapping_add_u32(at, 1);
-        }
-        all
+        admit(mem, base, data_size(size))?;
+        let all = write_each(mem, base, size, value, |i| {
+            self.physical(va.wrapping_add(i)) as u64
+        });
+        all.then_some(()).ok_or(DataError::BusError)
     }
 }

@@ -7,14 +7,7 @@ use crate::state::{InstructionMode, SystemState};
 // First banked register: R28 (SP), R29 (FP) and R30 (GP) are banked.
 pub const BANK_FIRST: usize = 28;
 
-// R0 to R31 beside the state, after the exchange.
-#[derive(Drop)]
-pub struct Exchanged {
-    pub sys: SystemState,
-    pub reg: [u32; 32],
-}
-
-// What a trap leaves.
+// What a trap or an exchange of the banks leaves: R0 to R31 beside the state.
 #[derive(Drop)]
 pub struct Trapped {
     pub sys: SystemState,
@@ -49,14 +42,12 @@ fn with_bank(reg: [u32; 32], bank: [u32; 3]) -> [u32; 32]
 }
 
 impl SystemState {
-    pub fn swap_bank(mut self, reg: [u32; 32]) -> Exchanged
+    pub fn swap_bank(mut self, reg: [u32; 32]) -> Trapped
         ensures { result ≡ exchanged self reg }
     {
-        let saved = self.other_bank;
-        let live = bank_of(reg);
-        let out = with_bank(reg, saved);
-        self.other_bank = live;
-        Exchanged {
+        let out = with_bank(reg, self.other_bank);
+        self.other_bank = bank_of(reg);
+        Trapped {
             sys: self,
             reg: out,
         }
@@ -70,13 +61,7 @@ impl SystemState {
         sys.epc = epc;
         sys.cause = cause;
         if self.user {
-            let swapped = sys.swap_bank(reg);
-            let out = swapped.sys;
-            let live = swapped.reg;
-            return Trapped {
-                sys: out,
-                reg: live,
-            };
+            return sys.swap_bank(reg);
         }
         Trapped { sys, reg }
     }
@@ -85,10 +70,7 @@ impl SystemState {
     fn enters_user(self) -> bool
         ensures { result ≡ enters_user self }
     {
-        if self.user {
-            return false;
-        }
-        self.pu
+        self.pu & !self.user
     }
 
     // IRET.
@@ -100,13 +82,11 @@ impl SystemState {
         let enters = self.enters_user();
         self.ie = self.pie;
         if enters {
-            let swapped = self.swap_bank(reg);
-            let mut out = swapped.sys;
-            let live = swapped.reg;
-            out.user = true;
+            let Trapped { mut sys, reg } = self.swap_bank(reg);
+            sys.user = true;
             return Returned {
-                sys: out,
-                reg: live,
+                sys,
+                reg,
                 epc,
                 mode,
             };

@@ -1,7 +1,5 @@
 -- A race on a new machine. Assumes nothing.
-use Prim.Native.Nat.{ℕ}
-use mathlib.Core.Path.{◌≡◌, ◌∙◌}
-use mathlib.Core.List.{List}
+use Rattle.std.proofs.Common.{◌≡◌, ℕ, List, ◌∙◌}
 use Rattle.machine.specs.Run.{run_from}
 use Rattle.machine.specs.State.{new_machine}
 use Rattle.machine.specs.Totals.{no_totals, totals_from}

@@ -10,14 +10,24 @@ ghost use Rattle.machine.specs.Run.{listing_of};
 use input::read_full;
 use listing::LISTING_MAX;
 use machine::run::list_whole;
-use std::io;
+use std::fmt::{Display, Formatter};
 use std::io::{Read, Write};
+use std::{fmt, io};
 
 // Where a run ended before its listing was out.
 #[derive(Clone, Copy)]
 enum Stopped {
     Reading,
     Writing,
+}
+
+impl Display for Stopped {
+    fn fmt<W: fmt::Write>(&self, f: &mut Formatter<W>) -> fmt::Result {
+        match self {
+            Stopped::Reading => write!(f, "the script could not be read to its end"),
+            Stopped::Writing => write!(f, "the listing could not be written whole"),
+        }
+    }
 }
 
 // Whether the input goes on, or can't be read, where the reading stopped before the buffer was full.
@@ -37,10 +47,8 @@ fn read_script<R: Read>(from: &mut R, script: &mut [u8]) -> Option<usize>
     let Ok(n) = read_full(from, script) else {
         return None;
     };
-    if n < script.len() {
-        if goes_on(from) {
-            return None;
-        }
+    if n < script.len() && goes_on(from) {
+        return None;
     }
     Some(n)
 }
@@ -57,6 +65,7 @@ fn list_to<W: Write>(to: &mut W, script: &[u8]) -> io::Result<()>
 fn run<R: Read, W: Write>(from: &mut R, to: &mut W) -> Result<(), Stopped>
     ensures { OnOk result (IfSome (R.remaining from.old) (λ s. Appends (W.contents to.old) (W.contents to.new) (listing_of s))) }
 {
+    // A buffer of its own, and no `Vec`: a script is listed whatever memory can be had.
     let mut script = [0u8; 65536];
     let Some(n) = read_script(from, &mut script) else {
         return Err(Stopped::Reading);
@@ -68,13 +77,7 @@ fn run<R: Read, W: Write>(from: &mut R, to: &mut W) -> Result<(), Stopped>
 }
 
 fn main(rt: HostRuntime) {
-    let ran = run(&mut rt.stdin(), &mut rt.stdout());
-    let Err(stopped) = ran else {
-        return;
-    };
-    let message: &[u8] = match stopped {
-        Stopped::Reading => b"runner: the script could not be read to its end\n",
-        Stopped::Writing => b"runner: the listing could not be written whole\n",
-    };
-    let _ = rt.stderr().write_all(message);
+    if let Err(stopped) = run(&mut rt.stdin(), &mut rt.stdout()) {
+        let _ = writeln!(rt.stderr(), "runner: {stopped}");
+    }
 }

@@ -1,17 +1,28 @@
--- A copy byte by byte: one byte more, and none left. Assumes nothing.
-use Rattle.std.proofs.Common.{◌≡◌, ℕ, ◌+◌, ◌<◌, ◌≤◌, List, length, get_or, take, set, sym, refl, ◌∙◌, add-one, arith, take_all, take-suc-set}
+-- A copy: the script's bytes as far as they go, then zeros. Assumes nothing.
+use Rattle.std.proofs.Common.{◌≡◌, ℕ, ◌+◌, ◌-◌, ◌<◌, ◌≤◌, List, ◌++◌, length, take, drop, replicate, min, sym, ◌∙◌, arith, take_all, length-drop, Option, Some, None, Bor}
+use Rattle.std.specs.Option.{IfSome, MatchOption}
+use Rattle.std.specs.Array.{IsFirstChunk}
 use Rattle.script.specs.Image.{bytes_from}
-use Rattle.script.specs.Image.Laws.{bytes_last}
+use Rattle.script.specs.Image.Laws.{bytes_inside, bytes_padded}
 
-pub copied_none : (s mem : List ℕ) (at : ℕ) → take 0 mem ≡ bytes_from s at 0
-unfolding bytes_from
-copied_none s mem at = refl
+module _ (s : List ℕ) where
+  rest_is : (start : ℕ) → take (length s - start) (drop start s) ≡ drop start s
+  rest_is start = take_all (length s - start) (drop start s) (omega (arith, length-drop start s))
 
-module _ (s mem : List ℕ) (at k : ℕ) (e : take k mem ≡ bytes_from s at k) where
-  pub copied_next : (b n end : ℕ) → length mem ≡ n → end ≡ n → k < end → b ≡ get_or s (at + k) 0 → take (k + 1) (set mem k b) ≡ bytes_from s at (k + 1)
-  copied_next b n end p q h f =
-      let g : k < length mem = omega arith in
-      rw (add-one, take-suc-set mem k b g, e, f) (sym (bytes_last s at k))
+  pub copied : (mem : List ℕ) (at start n : ℕ) (image zeros back : List ℕ) → start ≡ min at (length s)
+      → n ≡ min (length (take (length s - start) (drop start s))) (length mem) → image ≡ take n (take (length s - start) (drop start s))
+      → zeros ≡ replicate (length back) 0 → back ≡ drop n mem → image ++ zeros ≡ bytes_from s at (length mem)
+  copied mem at start n image zeros back e f g h b =
+      let f' : n ≡ min (length (drop start s)) (length mem) = rw (rest_is start) at f in
+      let m : n + length (drop n mem) ≡ length mem = omega (arith, length-drop n mem) in
+      rw (g, h, b, rest_is start)
+      (bytes_padded s at start n (length (drop n mem)) e (omega (arith, length-drop start s)) (λ p. omega (arith, length-drop start s, length-drop n mem)) ∙ rw m)
 
-  pub copied_all : (n : ℕ) → length mem ≡ n → k ≤ n → n ≤ k → mem ≡ bytes_from s at n
-  copied_all n h p q = let g : n ≡ k = omega arith in sym (take_all k mem (omega arith)) ∙ e ∙ rw g
+  pub first_bytes : (r : Option (Bor (List ℕ))) (rest : List ℕ) (at : ℕ) → MatchOption r (length rest < 12) (λ y. IsFirstChunk rest y.now 12)
+      → rest ≡ take (length s - at) (drop at s) → IfSome r (λ b. (at + 12 ≤ length s) × (b.now ≡ bytes_from s at 12))
+  first_bytes None rest at h e = tt
+  first_bytes (Some b) rest at h e =
+      let f : rest ≡ drop at s = e ∙ rest_is at in
+      let g : 12 ≤ length (drop at s) = rw f at h.enough in
+      let k : at + 12 ≤ length s = omega (arith, length-drop at s) in
+      (k, h.same ∙ rw f (sym (bytes_inside s at 12 k)))

@@ -1,4 +1,4 @@
-pub mod Headers
+pub mod Bytes
 pub mod Copies
 pub mod Sentences
 pub mod Figures

@@ -1,5 +1,5 @@
 -- The table's rows 4, 2 and 5, proved of the definitions. Assumes nothing.
-use Rattle.std.proofs.Common.{◌≡◌, ℕ, ◌+◌, ◌%◌, ◌<◌, ◌≤◌, max, Bool, true, false, cond, ◌&&◌, ◌||◌, eqb, leb, ◌≢◌, ◌⊎◌, ◌↔◌, List, length, refl, inl, inr, ⊎_elim, arith, ne_eqb, leb-false}
+use Rattle.std.proofs.Common.{◌≡◌, ℕ, ◌+◌, ◌%◌, ◌<◌, ◌≤◌, max, Bool, true, false, cond, ◌&&◌, ◌||◌, eqb, leb, ◌≢◌, ◌⊎◌, ◌↔◌, List, length, refl, inl, inr, ⊎_elim, arith, ne_eqb, leb-false, Result, Ok, Err}
 use mathlib.Core.Logic.Iff
 use borrow.Author.Tests.{lt-leb, eqb-false}
 use Rattle.common.specs.Cases.{absurd_eq}
@@ -10,9 +10,8 @@ use Rattle.script.specs.Header.{header_least, header_size, header_at, length_ok,
 use Rattle.script.specs.Image.Laws.{bytes_length, bytes_get_d}
 use Rattle.script.specs.Meaning.{BadHeader, BadMap, Misplaced, Overlap, BadSections, Meaning}
 use Rattle.script.specs.declared.header.Header.{Header}
-use Rattle.script.specs.declared.header.Section.{Section}
-use Rattle.script.specs.declared.header.Script.{Script}
-use Rattle.script.specs.declared.header.Script.TheVariants.{Good, Refused}
+use Rattle.std.specs.declared.ops.Range.{Range}
+use Rattle.common.specs.declared.Refusal.{Refusal}
 use Rattle.memory.specs.Memory.Laws.{good_map_is}
 
 -- ---- what it means that a test fails
@@ -50,27 +49,27 @@ map_fails h =
     rw good_map_is
     (fails_and (fails_and (fails_eqb (h.base % 4096) 0) (fails_eqb (h.image % 4096) 0)) (fails_leb (h.base + h.image) 0xFFFF_0000))
 
-section_fails : (h : Header) (n : ℕ) (p : Section) → Fails (section_ok (header_size h) n p) (Misplaced h n p)
+section_fails : (h : Header) (n : ℕ) (p : Range ℕ) → Fails (section_ok (header_size h) n p) (Misplaced h n p)
 unfolding section_ok
 section_fails h n p =
-    fails_or (fails_eqb p.at p.end) (fails_and (fails_leb (header_size h) p.at) (fails_leb p.end n))
+    fails_or (fails_eqb p.start p.end) (fails_and (fails_leb (header_size h) p.start) (fails_leb p.end n))
 
 -- two sections that are not empty share a byte exactly when each starts before the other ends
-apart_fails : (p q : Section) → p.at ≤ p.end → q.at ≤ q.end → Fails (apart p q) (Overlap p q)
+apart_fails : (p q : Range ℕ) → p.start ≤ p.end → q.start ≤ q.end → Fails (apart p q) (Overlap p q)
 unfolding apart
 apart_fails p q h g =
     Iff.trans
-    (fails_or (fails_or (fails_or (fails_eqb p.at p.end) (fails_eqb q.at q.end)) (fails_leb p.end q.at)) (fails_leb q.end p.at))
+    (fails_or (fails_or (fails_or (fails_eqb p.start p.end) (fails_eqb q.start q.end)) (fails_leb p.end q.start)) (fails_leb q.end p.start))
     (to, from)
   where
     Crossed : Type 0
-    Crossed = (((p.at ≢ p.end) × (q.at ≢ q.end)) × (q.at < p.end)) × (p.at < q.end)
+    Crossed = (((p.start ≢ p.end) × (q.start ≢ q.end)) × (q.start < p.end)) × (p.start < q.end)
 
     to : Crossed → Overlap p q
     to x =
-        let a : p.at < p.end = omega (arith, x.0.0.0) in
-        let b : q.at < q.end = omega (arith, x.0.0.1) in
-        (max p.at q.at, (omega arith, omega arith), (omega arith, omega arith))
+        let a : p.start < p.end = omega (arith, x.0.0.0) in
+        let b : q.start < q.end = omega (arith, x.0.0.1) in
+        (max p.start q.start, (omega arith, omega arith), (omega arith, omega arith))
 
     from : Overlap p q → Crossed
     from y = (((λ e. omega (arith, y.1), λ e. omega (arith, y.2)), omega (arith, y.1, y.2)), omega (arith, y.1, y.2))
@@ -83,15 +82,15 @@ sections_fail n h =
 
 -- ---- the refusals in order
 
-pub record Ordered (h : Header) (x : Script) (First Second Third : Type 0) : Type 0 where
-  pub header : (x ≡ Refused refusal.Header) ↔ First
-  pub map : (x ≡ Refused refusal.Map) ↔ ((First → ⊥) × Second)
-  pub section : (x ≡ Refused refusal.Section) ↔ ((First → ⊥) × (Second → ⊥) × Third)
-  pub good : (x ≡ Good h) ↔ ((First → ⊥) × (Second → ⊥) × (Third → ⊥))
+pub record Ordered (h : Header) (x : Result Header Refusal) (First Second Third : Type 0) : Type 0 where
+  pub header : (x ≡ Err refusal.Header) ↔ First
+  pub map : (x ≡ Err refusal.Map) ↔ ((First → ⊥) × Second)
+  pub section : (x ≡ Err refusal.Section) ↔ ((First → ⊥) × (Second → ⊥) × Third)
+  pub good : (x ≡ Ok h) ↔ ((First → ⊥) × (Second → ⊥) × (Third → ⊥))
 
 module _ (h : Header) {P Q R : Type 0} where
   ordered : (a b c : Bool) → Fails a P → Fails b Q → Fails c R
-      → Ordered h (cond a (cond b (cond c (Good h) (Refused refusal.Section)) (Refused refusal.Map)) (Refused refusal.Header)) P Q R
+      → Ordered h (cond a (cond b (cond c (Ok h) (Err refusal.Section)) (Err refusal.Map)) (Err refusal.Header)) P Q R
   ordered false b c f g k =
       record {
         header = (λ e. f.0 refl, λ x. refl);

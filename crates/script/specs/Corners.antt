@@ -5,30 +5,29 @@
 --   whole_case, whole_header                    == the bytes of the whole case, and its header
 --   an_event kind size aux a                    == an event with b 0
 --   Corners                                     == the figures, one field each
-use Rattle.std.specs.Prelude.{◌≡◌, ℕ, List, [], ◌∷◌, ◌++◌, replicate}
+use Rattle.std.specs.Prelude.{◌≡◌, ℕ, List, [], ◌∷◌, ◌++◌, replicate, Ok, Err}
 use Rattle.common.specs.declared.Refusal.TheVariants as refusal
 use Rattle.script.specs.Event.{event_at}
 use Rattle.script.specs.Header.{event_place, decided, script_of}
 use Rattle.script.specs.Image.{bytes_from}
 use Rattle.script.specs.declared.Event.{Event}
 use Rattle.script.specs.declared.header.Header.{Header}
-use Rattle.script.specs.declared.header.Script.TheVariants.{Good, Refused}
 
 abbrev pub a_header : ℕ → ℕ → ℕ → ℕ → ℕ → Header
 a_header events eventsAt image imageAt base =
     record { events = events; events_at = eventsAt; image = image; image_at = imageAt; base = base; penalty = 8 }
 
 abbrev pub IsGood : ℕ → Header → Type 0
-IsGood n h = decided n h ≡ Good h
+IsGood n h = decided n h ≡ Ok h
 
 abbrev pub Is4 : ℕ → Header → Type 0
-Is4 n h = decided n h ≡ Refused refusal.Header
+Is4 n h = decided n h ≡ Err refusal.Header
 
 abbrev pub Is2 : ℕ → Header → Type 0
-Is2 n h = decided n h ≡ Refused refusal.Map
+Is2 n h = decided n h ≡ Err refusal.Map
 
 abbrev pub Is5 : ℕ → Header → Type 0
-Is5 n h = decided n h ≡ Refused refusal.Section
+Is5 n h = decided n h ≡ Err refusal.Section
 
 -- "events at 24, image at 72, base 0, image 4,096 bytes starting 01 02 03 04 and then zeros, penalty 8, unnamed fields 0; load 4 at
 -- 0, load 4 at 0x1C, write register 0x13, load 4 at 0x1000"
@@ -54,7 +53,7 @@ abbrev pub an_event : ℕ → ℕ → ℕ → ℕ → Event
 an_event kind size aux a = record { kind = kind; size = size; aux = aux; a = a; b = 0 }
 
 pub record Corners : Type 0 where
-  pub whole_header_lem : script_of whole_case ≡ Good whole_header
+  pub whole_header_lem : script_of whole_case ≡ Ok whole_header
   pub whole_events :
       (event_at whole_case (event_place whole_header 0) ≡ an_event 0 4 0 0)
       × (event_at whole_case (event_place whole_header 1) ≡ an_event 0 4 0 0x1C)

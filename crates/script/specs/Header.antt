@@ -17,14 +17,13 @@
 --
 -- Choices that a reader may question. A section is its start and its end, a true sum, so nothing wraps. The map is tested by
 -- memory's own definition. A script that is too short has header words all the same, of zeros past its end; they decide nothing.
-use Rattle.std.specs.Prelude.{ℕ, ◌+◌, ◌*◌, ◌%◌, Bool, cond, ◌&&◌, ◌||◌, List, length, ◌==◌, nat_le}
+use Rattle.std.specs.Prelude.{ℕ, ◌+◌, ◌*◌, ◌%◌, Bool, cond, ◌&&◌, ◌||◌, List, length, ◌==◌, nat_le, Result, Ok, Err}
 use Rattle.common.specs.declared.Refusal.TheVariants as refusal
 use Rattle.memory.specs.Memory.{good_map}
 use Rattle.script.specs.Event.{word_of}
 use Rattle.script.specs.declared.header.Header.{Header}
-use Rattle.script.specs.declared.header.Section.{Section}
-use Rattle.script.specs.declared.header.Script.{Script}
-use Rattle.script.specs.declared.header.Script.TheVariants.{Good, Refused}
+use Rattle.std.specs.declared.ops.Range.{Range}
+use Rattle.common.specs.declared.Refusal.{Refusal}
 pub mod Laws
 
 abbrev pub header_least : ℕ
@@ -56,34 +55,34 @@ counts_ok h = nat_le h.events 2048 && nat_le h.image 32768 && h.image % 4096 == 
 abbrev pub event_place : Header → ℕ → ℕ
 event_place h k = h.events_at + 12 * k
 
-abbrev pub events_section : Header → Section
-events_section h = record { at = h.events_at; end = event_place h h.events }
+abbrev pub events_section : Header → Range ℕ
+events_section h = record { start = h.events_at; end = event_place h h.events }
 
-abbrev pub image_section : Header → Section
-image_section h = record { at = h.image_at; end = h.image_at + h.image }
+abbrev pub image_section : Header → Range ℕ
+image_section h = record { start = h.image_at; end = h.image_at + h.image }
 
-abbrev pub empty : Section → Bool
-empty p = p.at == p.end
+abbrev pub empty : Range ℕ → Bool
+empty p = p.start == p.end
 
 -- "a non-empty section starts before byte 24, ends after the script"
-unfoldable pub section_ok : ℕ → ℕ → Section → Bool
-section_ok z n p = empty p || (nat_le z p.at && nat_le p.end n)
+unfoldable pub section_ok : ℕ → ℕ → Range ℕ → Bool
+section_ok z n p = empty p || (nat_le z p.start && nat_le p.end n)
 
 -- "or overlaps the other"
-unfoldable pub apart : Section → Section → Bool
-apart p q = empty p || empty q || nat_le p.end q.at || nat_le q.end p.at
+unfoldable pub apart : Range ℕ → Range ℕ → Bool
+apart p q = empty p || empty q || nat_le p.end q.start || nat_le q.end p.start
 
 unfoldable pub sections_ok : ℕ → Header → Bool
 sections_ok n h = section_ok (header_size h) n (events_section h) && section_ok (header_size h) n (image_section h) && apart (events_section h) (image_section h)
 
 -- "For a script 4, 2, 5"
-unfoldable pub decided : ℕ → Header → Script
+unfoldable pub decided : ℕ → Header → Result Header Refusal
 decided n h =
     cond (length_ok n && counts_ok h)
     (cond (good_map h.base h.image)
-    (cond (sections_ok n h) (Good h) (Refused refusal.Section))
-    (Refused refusal.Map))
-    (Refused refusal.Header)
+    (cond (sections_ok n h) (Ok h) (Err refusal.Section))
+    (Err refusal.Map))
+    (Err refusal.Header)
 
-unfoldable pub script_of : List ℕ → Script
+unfoldable pub script_of : List ℕ → Result Header Refusal
 script_of s = decided (length s) (header_at s)

@@ -1,11 +1,13 @@
 // A script's header: where the events and the image stand, when a script is refused, and the image's copy.
 ghost use Rattle.std.specs.Prelude.{◌≡◌, length};
 ghost use Rattle.script.specs.Header.{header_at, header_size, length_ok, counts_ok, events_section, image_section, section_ok, apart, sections_ok, script_of, event_place};
+ghost use Rattle.script.specs.Event.{word_of};
 ghost use Rattle.script.specs.Image.{bytes_from};
 
-use crate::{EVENT_SIZE, byte_at, word_at};
+use crate::{EVENT_SIZE, padded};
 use common::Refusal;
 use memory::good_range;
+use std::ops::Range;
 
 // Six words, the shortest header.
 pub const HEADER_LEAST: usize = 24;
@@ -33,30 +35,24 @@ pub struct Header {
     pub penalty: u32,
 }
 
-// What a script's header says, or why the script is refused.
-#[derive(Drop)]
-pub enum Script {
-    Good(Header),
-    Refused(Refusal),
+// The big-endian word at a place.
+fn word_at(s: &[u8], at: usize) -> u32
+    ensures { result ≡ word_of s.now at 0 }
+{
+    u32::from_be_bytes(padded(s, at))
 }
 
-// The part of a script from `at` up to `end`.
-#[derive(Clone, Copy)]
-struct Section {
-    at: usize,
-    end: usize,
-}
-
+#[tactic(auto, unfolding(crate::specs::Header::header_at, crate::specs::Event::word_of))]
 fn read_header(s: &[u8]) -> Header
     ensures { result ≡ header_at s.now }
 {
     Header {
-        events: word_at(s, 0, 0),
-        events_at: word_at(s, 0, 4),
-        image: word_at(s, 0, 8),
-        image_at: word_at(s, 0, 12),
-        base: word_at(s, 0, 16),
-        penalty: word_at(s, 0, 20),
+        events: word_at(s, 0),
+        events_at: word_at(s, 4),
+        image: word_at(s, 8),
+        image_at: word_at(s, 12),
+        base: word_at(s, 16),
+        penalty: word_at(s, 20),
     }
 }
 
@@ -67,110 +63,80 @@ fn header_size(h: Header) -> usize
     HEADER_LEAST
 }
 
+#[tactic(auto, unfolding(crate::specs::Header::length_ok))]
 fn length_ok(len: usize) -> bool
     ensures { result ≡ length_ok len }
 {
-    if len < HEADER_LEAST {
-        return false;
-    }
-    len <= SCRIPT_MAX
+    HEADER_LEAST <= len && len <= SCRIPT_MAX
 }
 
+#[tactic(auto, unfolding(crate::specs::Header::counts_ok))]
 fn counts_ok(h: Header) -> bool
     ensures { result ≡ counts_ok h }
 {
-    if h.events > EVENTS_MAX {
-        return false;
-    }
-    if h.image > IMAGE_MAX {
-        return false;
-    }
-    h.image % PAGE_SIZE == 0
+    h.events <= EVENTS_MAX && h.image <= IMAGE_MAX && h.image % PAGE_SIZE == 0
 }
 
-fn events_section(h: Header) -> Section
+fn events_section(h: Header) -> Range<usize>
     ensures { result ≡ events_section h }
 {
-    let at = h.events_at as usize;
-    Section {
-        at,
-        end: at + EVENT_SIZE * (h.events as usize),
-    }
+    let start = h.events_at as usize;
+    start..start + EVENT_SIZE * (h.events as usize)
 }
 
-fn image_section(h: Header) -> Section
+fn image_section(h: Header) -> Range<usize>
     ensures { result ≡ image_section h }
 {
-    let at = h.image_at as usize;
-    Section {
-        at,
-        end: at + (h.image as usize),
-    }
+    let start = h.image_at as usize;
+    start..start + (h.image as usize)
 }
 
 // A section behind `first` bytes of header. An empty one is not tested.
-fn section_ok(first: usize, len: usize, p: Section) -> bool
-    ensures { result ≡ section_ok first len p }
+#[tactic(auto, unfolding(crate::specs::Header::section_ok))]
+fn section_ok(first: usize, len: usize, p: &Range<usize>) -> bool
+    ensures { result ≡ section_ok first len p.now }
 {
-    if p.at == p.end {
-        return true;
-    }
-    if p.at < first {
-        return false;
-    }
-    p.end <= len
+    p.start == p.end || (first <= p.start && p.end <= len)
 }
 
 // No byte is in both. Sections that touch are apart, and so is an empty one from any other.
-fn apart(p: Section, q: Section) -> bool
-    ensures { result ≡ apart p q }
+#[tactic(auto, unfolding(crate::specs::Header::apart))]
+fn apart(p: &Range<usize>, q: &Range<usize>) -> bool
+    ensures { result ≡ apart p.now q.now }
 {
-    if p.at == p.end {
-        return true;
-    }
-    if q.at == q.end {
-        return true;
-    }
-    if p.end <= q.at {
-        return true;
-    }
-    q.end <= p.at
+    p.start == p.end || q.start == q.end || p.end <= q.start || q.end <= p.start
 }
 
+#[tactic(auto, unfolding(crate::specs::Header::sections_ok))]
 fn sections_ok(len: usize, h: Header) -> bool
     ensures { result ≡ sections_ok len h }
 {
     let first = header_size(h);
     let events = events_section(h);
     let image = image_section(h);
-    if !section_ok(first, len, events) {
-        return false;
-    }
-    if !section_ok(first, len, image) {
-        return false;
-    }
-    apart(events, image)
+    section_ok(first, len, &events) && section_ok(first, len, &image) && apart(&events, &image)
 }
 
 // The header of a good script, or the first refusal that is due: 4, then 2, then 5.
-pub fn header_of(s: &[u8]) -> Script
+#[tactic(auto, unfolding(crate::specs::Header::script_of, crate::specs::Header::decided))]
+pub fn header_of(s: &[u8]) -> Result<Header, Refusal>
     ensures { result ≡ script_of s.now }
 {
     let len = s.len();
     if !length_ok(len) {
-        return Script::Refused(Refusal::Header);
+        return Err(Refusal::Header);
     }
     let h = read_header(s);
     if !counts_ok(h) {
-        return Script::Refused(Refusal::Header);
+        return Err(Refusal::Header);
     }
     if !good_range(h.base, h.image as u64) {
-        return Script::Refused(Refusal::Map);
+        return Err(Refusal::Map);
     }
     if !sections_ok(len, h) {
-        return Script::Refused(Refusal::Section);
+        return Err(Refusal::Section);
     }
-    Script::Good(h)
+    Ok(h)
 }
 
 // Where event k starts in the script.
@@ -184,7 +150,9 @@ pub fn event_place(h: Header, k: u32) -> usize
 pub fn copy_image(s: &[u8], at: usize, mem: &mut [u8])
     ensures { mem.new ≡ bytes_from s.now at (length mem.old) }
 {
-    for k in 0..mem.len() {
-        mem[k] = byte_at(s, at, k);
-    }
+    let rest = &s[at.min(s.len())..];
+    let n = rest.len().min(mem.len());
+    let (image, zeros) = mem.split_at_mut(n);
+    image.copy_from_slice(&rest[..n]);
+    zeros.fill(0);
 }

@@ -1,15 +1,16 @@
 // An event script: document 01, 'Event script and its listing'. Here its events; `header` has its header and its image.
 #![tactic(auto)]
 
-ghost use Rattle.std.specs.Prelude.{◌≡◌, ◌+◌, ◌<◌, ◌≤◌, length};
-ghost use Rattle.script.specs.Event.{byte_of, half_of, word_of, event_at};
+ghost use Rattle.std.specs.Prelude.{◌≡◌, ◌+◌, ◌≤◌, length, IfSome};
+ghost use Rattle.script.specs.Event.{event_at};
+ghost use Rattle.script.specs.Image.{bytes_from};
 ghost use Rattle.script.specs.Meaning.{Meaning};
 ghost use Rattle.script.specs.Corners.{Corners};
 
-use common::{be_half, be_word};
-
 pub mod header;
 pub mod reader;
+
+use header::copy_image;
 
 pub const EVENT_SIZE: usize = 12;
 
@@ -23,72 +24,43 @@ pub struct Event {
     pub b: u32,
 }
 
-// Byte `k` from place `at` on; 0 past the end.
-fn byte_at(s: &[u8], at: usize, k: usize) -> u8
-    ensures { result ≡ byte_of s.now at k }
+// `N` bytes from place `at` on; zeros past the end.
+fn padded<const N: usize>(s: &[u8], at: usize) -> [u8; N]
+    ensures { result ≡ bytes_from s.now at N }
 {
-    if s.len() <= at {
-        return 0;
-    }
-    if k < s.len() - at { s[at + k] } else { 0 }
+    let mut bytes = [0u8; N];
+    copy_image(s, at, &mut bytes);
+    bytes
 }
 
-fn half_at(s: &[u8], at: usize, k: usize) -> u16
-    requires { k < 32 }
-    ensures { result ≡ half_of s.now at k }
+fn decode(bytes: &[u8; EVENT_SIZE]) -> Event
+    ensures { result ≡ event_at bytes.now 0 }
 {
-    be_half(byte_at(s, at, k), byte_at(s, at, k + 1))
-}
-
-fn word_at(s: &[u8], at: usize, k: usize) -> u32
-    requires { k < 32 }
-    ensures { result ≡ word_of s.now at k }
-{
-    be_word(
-        byte_at(s, at, k),
-        byte_at(s, at, k + 1),
-        byte_at(s, at, k + 2),
-        byte_at(s, at, k + 3),
-    )
-}
-
-// The event at a place where all its bytes are there: none is tested.
-fn whole_event(s: &[u8], at: usize) -> Event
-    requires { at + 12 ≤ length s.now }
-    ensures { result ≡ event_at s.now at }
-{
+    let [kind, size, aux0, aux1, a0, a1, a2, a3, b0, b1, b2, b3] = *bytes;
     Event {
-        kind: s[at],
-        size: s[at + 1],
-        aux: be_half(s[at + 2], s[at + 3]),
-        a: be_word(s[at + 4], s[at + 5], s[at + 6], s[at + 7]),
-        b: be_word(s[at + 8], s[at + 9], s[at + 10], s[at + 11]),
+        kind,
+        size,
+        aux: u16::from_be_bytes([aux0, aux1]),
+        a: u32::from_be_bytes([a0, a1, a2, a3]),
+        b: u32::from_be_bytes([b0, b1, b2, b3]),
     }
 }
 
-// The event at a place where the script may end within it: each byte is tested.
-fn cut_event(s: &[u8], at: usize) -> Event
-    ensures { result ≡ event_at s.now at }
+// The bytes of the event at a place, where all of them are there.
+fn whole_event(s: &[u8], at: usize) -> Option<&[u8; EVENT_SIZE]>
+    ensures { IfSome result (λ b. (at + 12 ≤ length s.now) × (b.now ≡ bytes_from s.now at 12)) }
 {
-    Event {
-        kind: byte_at(s, at, 0),
-        size: byte_at(s, at, 1),
-        aux: half_at(s, at, 2),
-        a: word_at(s, at, 4),
-        b: word_at(s, at, 8),
-    }
+    s.get(at..)?.first_chunk()
 }
 
 // The event that starts at a place of the script. That all its bytes are there is tested once.
 pub fn event_at(s: &[u8], at: usize) -> Event
     ensures { result ≡ event_at s.now at }
 {
-    if s.len() >= EVENT_SIZE {
-        if at <= s.len() - EVENT_SIZE {
-            return whole_event(s, at);
-        }
+    match whole_event(s, at) {
+        Some(bytes) => decode(bytes),
+        None => decode(&padded(s, at)),
     }
-    cut_event(s, at)
 }
 
 // When each refusal is given, in the document's words.

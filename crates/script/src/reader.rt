@@ -29,10 +29,9 @@ impl<'a> Reader<'a> {
     pub fn next(self) -> Reader<'a>
         ensures { (result.script ≡ self.entry.script) × (result.at ≡ (self.entry.at + 12) % 2 ^ 64) }
     {
-        let at = std::num::wrapping_add_usize(self.at, EVENT_SIZE);
         Reader {
-            script: self.script,
-            at,
+            at: self.at.wrapping_add(EVENT_SIZE),
+            ..self
         }
     }
 }

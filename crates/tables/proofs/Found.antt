@@ -8,7 +8,7 @@
 --   tables_inside, frames_are_tables                  == the bytes of the tables are those of the used frames
 --   directory_word                                    == the word of level 1 that names table number j
 --   list_opens, opened_list                           == what is open to users is what the list opens
-use Rattle.std.specs.Prelude.{ℕ, zero, suc, ◌+◌, ◌-◌, ◌*◌, ◌/◌, ◌%◌, ◌^◌, ◌<◌, ◌≡◌, refl, List, [], ◌∷◌, eqb}
+use Rattle.std.specs.Prelude.{ℕ, zero, suc, ◌+◌, ◌-◌, ◌*◌, ◌/◌, ◌%◌, ◌^◌, ◌<◌, ◌≡◌, refl, List, [], ◌∷◌, eqb, Some, Ok, Err}
 use Rattle.std.proofs.Math.Path.{sym, ap}
 use Rattle.std.proofs.Common.{◌∙◌, get_or-append-add}
 use Rattle.std.proofs.Math.Bool.{true, false}
@@ -18,10 +18,9 @@ use Rattle.common.specs.Bits.{bit_set}
 use Rattle.common.specs.Cases.{absurd_eq, cond_holds, and_left, and_right}
 use Rattle.common.specs.Lists.{Each}
 use Rattle.memory.specs.Memory.{byte_at, read_at, word_spots}
-use Rattle.memory.specs.declared.Content.TheVariants.{Value}
+use Rattle.mmu.specs.declared.walk.WalkFault.TheVariants.{Missing}
 use Rattle.mmu.specs.Walk.{table_ok, word_of_table, walk_leaf, walk_of}
 use Rattle.mmu.specs.declared.tlb.TlbEntry.{TlbEntry}
-use Rattle.mmu.specs.declared.walk.Walked.TheVariants.{Leaf, Missing}
 use Rattle.mmu.specs.declared.walk.WalkAnswer.{WalkAnswer}
 use Rattle.mmu.specs.Check.{page_addr}
 use Rattle.mmu.specs.Exception.{access_bit}
@@ -59,72 +58,72 @@ module _ (c : Call) (acc : Accepted c) where
       (tables_fit 1024 (list_of c) acc.leaves)
 
   -- word i of level 1
-  pub word_of_level1 : (i : ℕ) → i < 1024 → read_at (made c) (word_spots (word_of_table c.first i)) ≡ Value (table_for c.first i (directories c.vpns))
+  pub word_of_level1 : (i : ℕ) → i < 1024 → read_at (made c) (word_spots (word_of_table c.first i)) ≡ Some (table_for c.first i (directories c.vpns))
   unfolding image frames_for
   word_of_level1 i h =
       let at : word_of_table c.first i ≡ c.first + 4 * i = omega (arith, run_aligned c acc) in
       let size = level1_size c.first (directories c.vpns) in
       rw at (word_back (image c.first c.vpns (list_of c)) c.memory c.first (in_map c acc) image_fits i (omega (arith, image_size c acc))
-      ∙ ap Value (get_or-append (t.level1 c.first (directories c.vpns)) (tables_after 1024 (list_of c)) 0 i (omega arith) ∙ level1_at c.first (directories c.vpns) i h))
+      ∙ ap Some (get_or-append (t.level1 c.first (directories c.vpns)) (tables_after 1024 (list_of c)) 0 i (omega arith) ∙ level1_at c.first (directories c.vpns) i h))
 
   -- word i of the level-2 table number j, which the word w names
   pub word_of_level2 : (j i w : ℕ) → j < length (directories c.vpns) → i < 1024 → w ≡ c.first + 4096 * (j + 1) + 1
-      → read_at (made c) (word_spots (word_of_table w i)) ≡ Value (get_or (tables_after 1024 (list_of c)) (j * 1024 + i) 0)
+      → read_at (made c) (word_spots (word_of_table w i)) ≡ Some (get_or (tables_after 1024 (list_of c)) (j * 1024 + i) 0)
   unfolding image frames_for
   word_of_level2 j i w g h e =
       let ws = t.level1 c.first (directories c.vpns) in
       let size = level1_size c.first (directories c.vpns) in
       let at : word_of_table w i ≡ c.first + 4 * (length ws + (j * 1024 + i)) = omega (arith, run_aligned c acc) in
       rw at (word_back (image c.first c.vpns (list_of c)) c.memory c.first (in_map c acc) image_fits (length ws + (j * 1024 + i)) (omega (arith, image_size c acc))
-      ∙ ap Value (get_or-append-add ws (tables_after 1024 (list_of c)) (j * 1024 + i) 0))
+      ∙ ap Some (get_or-append-add ws (tables_after 1024 (list_of c)) (j * 1024 + i) 0))
 
   -- a walk leads to the page's leaf, and where there is none, to nothing
-  pub walk_leads : (va : ℕ) → va < 2 ^ 32 → (walk_of (made c) c.first va).walked ≡ (walk_leaf va (Value (leaf_at (va / 4096) (list_of c)))).walked
+  pub walk_leads : (va : ℕ) → va < 2 ^ 32 → (walk_of (made c) c.first va).walked ≡ (walk_leaf va (Some (leaf_at (va / 4096) (list_of c)))).walked
   walk_leads va h = by_place (placed c.first 1024 (va / 4096) (list_of c) (λ e. omega arith))
     where
       directory : va / 4096 / 1024 ≡ va / 4194304
       directory = omega arith
 
-      by_place : Placed c.first 1024 (va / 4096) (list_of c) → (walk_of (made c) c.first va).walked ≡ (walk_leaf va (Value (leaf_at (va / 4096) (list_of c)))).walked
+      by_place : Placed c.first 1024 (va / 4096) (list_of c) → (walk_of (made c) c.first va).walked ≡ (walk_leaf va (Some (leaf_at (va / 4096) (list_of c)))).walked
       by_place (nowhere p q) =
-          let word = word_of_level1 (va / 4194304) (omega arith) ∙ ap Value (rw (pages_of c.vpns c.ppns c.bits acc.list, directory) at p) in
+          let word = word_of_level1 (va / 4194304) (omega arith) ∙ ap Some (rw (pages_of c.vpns c.ppns c.bits acc.list, directory) at p) in
           walk_one (made c) c.first va 0 word none_followed ∙ sym (rw q (no_leaf va))
       by_place (in_table j g p q) =
           let w = c.first + 4096 * (j + 1) + 1 in
-          let word = word_of_level1 (va / 4194304) (omega arith) ∙ ap Value (rw (pages_of c.vpns c.ppns c.bits acc.list, directory) at p) in
+          let word = word_of_level1 (va / 4194304) (omega arith) ∙ ap Some (rw (pages_of c.vpns c.ppns c.bits acc.list, directory) at p) in
           let some = rw (pages_of c.vpns c.ppns c.bits acc.list) at g in
-          ap (λ (x : WalkAnswer). x.walked) (walk_two (made c) c.first va w word (Value (leaf_at (va / 4096) (list_of c)))
+          ap (λ (x : WalkAnswer). x.walked) (walk_two (made c) c.first va w word (Some (leaf_at (va / 4096) (list_of c)))
           (table_followed (c.first + 4096 * (j + 1)) (omega (arith, run_aligned c acc)))
-          (word_of_level2 j (va / 4096 % 1024) w some (omega arith) refl ∙ ap Value q))
+          (word_of_level2 j (va / 4096 % 1024) w some (omega arith) refl ∙ ap Some q))
 
 -- ---- what is found, and where, after an accepted call
 
 module _ (c : Call) (acc : Accepted c) where
   pub walk_listed : (va : ℕ) → va < 2 ^ 32 → (x : Mapping) → Listed x (list_of c) → x.vpn ≡ va / 4096
-      → (walk_of (made c) c.first va).walked ≡ Leaf (entry_of x)
+      → (walk_of (made c) c.first va).walked ≡ Ok (entry_of x)
   walk_listed va h x l e = walk_leads c acc va h ∙ by_leaf (by_page (va / 4096) (list_of c))
     where
-      by_leaf : ByPage (va / 4096) (list_of c) → (walk_leaf va (Value (leaf_at (va / 4096) (list_of c)))).walked ≡ Leaf (entry_of x)
+      by_leaf : ByPage (va / 4096) (list_of c) → (walk_leaf va (Some (leaf_at (va / 4096) (list_of c)))).walked ≡ Ok (entry_of x)
       by_leaf (absent f q) = absurd (f x l e)
       by_leaf (present y k g q) =
           let same : y ≡ x = listed_once 0 y x (list_of c) (ascends c acc) k l (g ∙ sym e) in
           rw (q, same) (entry_listed c acc va x l e)
 
   pub walk_unlisted : (va : ℕ) → va < 2 ^ 32 → ((x : Mapping) → Listed x (list_of c) → x.vpn ≡ va / 4096 → ⊥)
-      → (walk_of (made c) c.first va).walked ≡ Missing
+      → (walk_of (made c) c.first va).walked ≡ Err Missing
   walk_unlisted va h f = walk_leads c acc va h ∙ by_leaf (by_page (va / 4096) (list_of c))
     where
-      by_leaf : ByPage (va / 4096) (list_of c) → (walk_leaf va (Value (leaf_at (va / 4096) (list_of c)))).walked ≡ Missing
+      by_leaf : ByPage (va / 4096) (list_of c) → (walk_leaf va (Some (leaf_at (va / 4096) (list_of c)))).walked ≡ Err Missing
       by_leaf (absent g q) = rw q (no_leaf va)
       by_leaf (present y k g q) = absurd (f y k g)
 
-  pub walk_only : (va : ℕ) → va < 2 ^ 32 → (e : TlbEntry) → (walk_of (made c) c.first va).walked ≡ Leaf e
+  pub walk_only : (va : ℕ) → va < 2 ^ 32 → (e : TlbEntry) → (walk_of (made c) c.first va).walked ≡ Ok e
       → FromList (list_of c) e
   walk_only va h e p = by_leaf (by_page (va / 4096) (list_of c))
     where
       by_leaf : ByPage (va / 4096) (list_of c) → FromList (list_of c) e
-      by_leaf (absent g q) = let z : Leaf e ≡ Missing = sym p ∙ walk_unlisted va h g in absurd_eq (cc)
-      by_leaf (present y k g q) = let z : Leaf e ≡ Leaf (entry_of y) = sym p ∙ walk_listed va h y k g in from_list y k (cc)
+      by_leaf (absent g q) = let z : Ok e ≡ (Err Missing) = sym p ∙ walk_unlisted va h g in absurd_eq (cc)
+      by_leaf (present y k g q) = let z : Ok e ≡ Ok (entry_of y) = sym p ∙ walk_listed va h y k g in from_list y k (cc)
 
   -- ---- the bytes
 
@@ -151,7 +150,7 @@ module _ (c : Call) (acc : Accepted c) where
   pub tables_inside : (a : ℕ) → TableByte (made c) c.first a → InFrames c.first (frames_for c.vpns) a
   tables_inside a (level1 e) = (omega (arith, run_aligned c acc), omega (arith, run_aligned c acc, some_frame c acc))
   tables_inside a (level2 i w h p t e) =
-      let q : Value (table_for c.first i (directories c.vpns)) ≡ Value w = sym (word_of_level1 c acc i h) ∙ p in
+      let q : Some (table_for c.first i (directories c.vpns)) ≡ Some w = sym (word_of_level1 c acc i h) ∙ p in
       named a w e t i (cc)
 
   pub directory_word : (j : ℕ) → j < length (directories c.vpns) → table_for c.first (get_or (directories c.vpns) j 0) (directories c.vpns) ≡ c.first + 4096 * (j + 1) + 1
@@ -165,7 +164,7 @@ module _ (c : Call) (acc : Accepted c) where
       let some : j < length (directories c.vpns) = omega arith in
       let low = directory_low c acc j some in
       let word = directory_word j some in
-      level2 d (c.first + 4096 * (j + 1) + 1) low (word_of_level1 c acc d low ∙ ap Value word)
+      level2 d (c.first + 4096 * (j + 1) + 1) low (word_of_level1 c acc d low ∙ ap Some word)
       (table_followed (c.first + 4096 * (j + 1)) (omega (arith, run_aligned c acc))) (omega (arith, run_aligned c acc))
 
   pub frames_are_tables : (a : ℕ) → InFrames c.first (frames_for c.vpns) a → TableByte (made c) c.first a
@@ -177,7 +176,7 @@ module _ (c : Call) (acc : Accepted c) where
 
   -- word i of the table number j
   pub word_of_table_lem : (j i : ℕ) → j < length (directories c.vpns) → i < 1024
-      → read_at (made c) (word_spots (c.first + 4096 * (j + 1) + 4 * i)) ≡ Value (leaf_at (get_or (directories c.vpns) j 0 * 1024 + i) (list_of c))
+      → read_at (made c) (word_spots (c.first + 4096 * (j + 1) + 4 * i)) ≡ Some (leaf_at (get_or (directories c.vpns) j 0 * 1024 + i) (list_of c))
   word_of_table_lem j i h g = by_place (placed c.first 1024 v (list_of c) (λ e. omega (arith, directory_low c acc j h)))
     where
       v : ℕ
@@ -192,7 +191,7 @@ module _ (c : Call) (acc : Accepted c) where
       at : word_of_table (c.first + 4096 * (j + 1) + 1) i ≡ c.first + 4096 * (j + 1) + 4 * i
       at = omega (arith, run_aligned c acc)
 
-      by_place : Placed c.first 1024 v (list_of c) → read_at (made c) (word_spots (c.first + 4096 * (j + 1) + 4 * i)) ≡ Value (leaf_at v (list_of c))
+      by_place : Placed c.first 1024 v (list_of c) → read_at (made c) (word_spots (c.first + 4096 * (j + 1) + 4 * i)) ≡ Some (leaf_at v (list_of c))
       by_place (nowhere p q) =
           let own = directory_word j h in
           let none = rw (pages_of c.vpns c.ppns c.bits acc.list, own_directory) at p in
@@ -201,7 +200,7 @@ module _ (c : Call) (acc : Accepted c) where
           let own = directory_word j h in
           let named = rw (pages_of c.vpns c.ppns c.bits acc.list, own_directory) at p in
           let same : k ≡ j = omega arith in
-          rw (← at) (word_of_level2 c acc j i (c.first + 4096 * (j + 1) + 1) h g refl ∙ ap Value (rw (same, low) at q))
+          rw (← at) (word_of_level2 c acc j i (c.first + 4096 * (j + 1) + 1) h g refl ∙ ap Some (rw (same, low) at q))
 
   -- ---- what is open to users: exactly what the list opens
 

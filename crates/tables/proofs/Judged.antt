@@ -1,15 +1,14 @@
 -- The ways through the tests of a mapping and of the list. Assumes nothing.
-use Prim.Native.Nat.{ℕ, ◌+◌, ◌*◌, ◌%◌, ◌≤◌, ◌<◌}
+use Prim.Native.Nat.{ℕ, suc, ◌+◌, ◌*◌, ◌%◌, ◌≤◌, ◌<◌}
 use mathlib.Core.Path.{◌≡◌, refl, sym, ◌∙◌}
 use mathlib.Core.Bool.{Bool, true, false, not, ◌&&◌, ◌||◌}
-use mathlib.Core.List.{List}
-use native.Mathlib.Numerals.{add-one}
+use mathlib.Core.List.{List, [], ◌∷◌}
+use Rattle.std.specs.List.{IsAllAdjacentAnswer}
 use native.Mathlib.Omega.{arith}
 use lib.Dec.{ltb, eqb}
 use lib.Bits.{bit_and}
-use lib.ListN.{length, get_or, drop, drop_of_length-le}
-use lib.Seq.{drop-cons}
-use borrow.Author.Tests.{ltb-true, eqb-true, lt-ltb, le-ltb, le-leb, lt-leb, eq-eqb, ne_eqb}
+use lib.ListN.{length, get_or, drop}
+use borrow.Author.Tests.{ltb-true, eqb-true, lt-ltb, le-ltb, le-leb, eq-eqb, ne_eqb}
 use Rattle.common.specs.Bits.{bit_set}
 use Rattle.common.specs.Cases.{and_left, and_right}
 use Rattle.common.specs.Bits.Laws.{clear_bit, set_bit, flag_is, field_is}
@@ -17,8 +16,8 @@ use Rattle.mmu.specs.Check.{page_addr}
 use Rattle.mmu.specs.Walk.{leaf_ok}
 use Rattle.mmu.specs.Walk.Laws.{leaf_by_bits, leaf_alone}
 use Rattle.tables.specs.declared.mapping.Mapping.{Mapping}
-use Rattle.tables.specs.Mapping.{mapping, mappings, leaf_of, only_listed, good_bits, good_mapping, ascending_from, good_list, all_good, leaf_at}
-use Rattle.tables.specs.Mapping.Laws.{good_ascending, mapping_next, none_left, pages_from, ascending_drop, leaf_above}
+use Rattle.tables.specs.Mapping.{mapping, mappings, leaf_of, only_listed, good_bits, good_mapping, ascending_from, good_list, all_good}
+use Rattle.tables.specs.Mapping.Laws.{ascending_pairs, mapping_next, none_left}
 
 -- ---- `good_bits`
 
@@ -71,44 +70,26 @@ module _ (x : Mapping) where
         e ∙ same_leaf (only_listed x.bits) refl
         ∙ sym (rw (lt-ltb (x.vpn * 4096) 0xFFFF_0000 (omega arith), lt-ltb (x.ppn * 4096) 0xFFFF_0000 (omega arith)))
 
--- ---- `ascending`: the whole test is the test from place k on, where the next page has to be at least n
+-- ---- `ascending`: each page is below the next
 
-module _ (z : Bool) (l : List ℕ) (n k : ℕ) (p : z ≡ ascending_from n (drop k l)) where
-  pub order_done : length l ≤ k → true ≡ z
-  unfolding ascending_from
-  order_done h = sym (p ∙ rw (drop_of_length-le l h))
+adjacent_ascends : (n : ℕ) (l : List ℕ) → (0 < length l → n ≤ get_or l 0 0) → ((k : ℕ) → k + 1 < length l → get_or l k 0 < get_or l (k + 1) 0) → ascending_from n l ≡ true
+unfolding ascending_from
+adjacent_ascends n [] h f = refl
+adjacent_ascends n (v ∷ l) h f =
+    rw (le-leb n v (h (omega arith)))
+    (adjacent_ascends (v + 1) l (λ g. let a = f 0 (omega arith) in omega arith) (λ k g. let a = f (suc k) (omega arith) in let e : suc k + 1 ≡ suc (k + 1) = omega arith in rw e at a))
 
-  module _ (h : k < length l) where
-    pub order_broken : get_or l k 0 < n → false ≡ z
-    unfolding ascending_from
-    order_broken g = sym (p ∙ rw (drop-cons l k 0 h, lt-leb n (get_or l k 0) g))
+pub sorted_ascends : (l : List ℕ) (r : Bool) → IsAllAdjacentAnswer (λ x y b. b ≡ ltb x y) l r → r ≡ ascending_from 0 l
+sorted_ascends l true h = sym (adjacent_ascends 0 l (λ _. omega arith) (λ k g. ltb-true (get_or l k 0) (get_or l (k + 1) 0) (sym (h k 0 g))))
+sorted_ascends l false h = by (ascending_from 0 l) refl
+  where
+    by : (b : Bool) → ascending_from 0 l ≡ b → false ≡ b
+    by false p = refl
+    by true p =
+        let below = ascending_pairs 0 l p h.0 (h.0 + 1) (omega arith) h.1 in
+        h.2 0 ∙ lt-ltb (get_or l h.0 0) (get_or l (h.0 + 1) 0) below
 
-    pub order_kept : n ≤ get_or l k 0 → z ≡ ascending_from (get_or l k 0 + 1) (drop (k + 1) l)
-    unfolding ascending_from
-    order_kept g = p ∙ rw (drop-cons l k 0 h, le-leb n (get_or l k 0) g, add-one k)
-
--- ---- `good_list`
-
-module _ (vs ps bs : List ℕ) where
-  pub list_long : 512 < length vs → false ≡ good_list vs ps bs
-  unfolding good_list
-  list_long h = rw (lt-leb (length vs) 512 h)
-
-  module _ (h : length vs ≤ 512) where
-    pub ppns_other : (length ps ≡ length vs → ⊥) → false ≡ good_list vs ps bs
-    unfolding good_list
-    ppns_other g = rw (le-leb (length vs) 512 h, ne_eqb (length ps) (length vs) g)
-
-    module _ (g : length ps ≡ length vs) where
-      pub bits_other : (length bs ≡ length vs → ⊥) → false ≡ good_list vs ps bs
-      unfolding good_list
-      bits_other k = rw (le-leb (length vs) 512 h, eq-eqb (length ps) (length vs) g, ne_eqb (length bs) (length vs) k)
-
-      pub by_order : (r : Bool) → length bs ≡ length vs → r ≡ ascending_from 0 vs → r ≡ good_list vs ps bs
-      unfolding good_list
-      by_order r k e = e ∙ sym (rw (le-leb (length vs) 512 h, eq-eqb (length ps) (length vs) g, eq-eqb (length bs) (length vs) k))
-
--- ---- `all_good` and `leaf_at`: the list from place k on
+-- ---- `all_good`: the list from place k on
 
 module _ (vs ps bs : List ℕ) (good : good_list vs ps bs ≡ true) where
   module _ (z : Bool) (k : ℕ) (p : z ≡ all_good (drop k (mappings vs ps bs))) where
@@ -124,22 +105,3 @@ module _ (vs ps bs : List ℕ) (good : good_list vs ps bs ≡ true) where
       pub one_good : r ≡ true → z ≡ all_good (drop (k + 1) (mappings vs ps bs))
       unfolding all_good
       one_good t = p ∙ rw (mapping_next vs ps bs good k h, ← e, ← q, t)
-
-  module _ (z page k : ℕ) (p : z ≡ leaf_at page (drop k (mappings vs ps bs))) where
-    pub leaf_none : length vs ≤ k → 0 ≡ z
-    unfolding leaf_at
-    leaf_none h = sym (p ∙ rw (none_left vs ps bs good k h))
-
-    module _ (h : k < length vs) where
-      pub leaf_here : (x : Mapping) (r : ℕ) → get_or vs k 0 ≡ page → x ≡ mapping (get_or vs k 0) (get_or ps k 0) (get_or bs k 0) → r ≡ leaf_of x → r ≡ z
-      unfolding leaf_at
-      leaf_here x r g e q = q ∙ sym (p ∙ rw (mapping_next vs ps bs good k h, eq-eqb (get_or vs k 0) page g, e))
-
-      pub leaf_past : page < get_or vs k 0 → 0 ≡ z
-      leaf_past g =
-          sym (p ∙ leaf_above (get_or vs k 0) page (drop k (mappings vs ps bs))
-          (rw (← (pages_from vs ps bs good k)) at (ascending_drop 0 vs (good_ascending vs ps bs good) k h)) g)
-
-      pub leaf_later : (get_or vs k 0 ≡ page → ⊥) → z ≡ leaf_at page (drop (k + 1) (mappings vs ps bs))
-      unfolding leaf_at
-      leaf_later g = p ∙ rw (mapping_next vs ps bs good k h, ne_eqb (get_or vs k 0) page g)

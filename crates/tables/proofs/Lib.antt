@@ -5,3 +5,4 @@ pub mod Written
 pub mod Answered
 pub mod Counted
 pub mod Sentences
+pub mod Searched

@@ -1,4 +1,5 @@
 -- W-201's sentences, proved of the definitions. Assumes nothing.
+use Rattle.std.specs.Prelude.{Some, Result, Ok, Err}
 use Prim.Native.Nat.{ℕ, ◌+◌, ◌-◌, ◌*◌, ◌/◌, ◌%◌, ◌≤◌, ◌<◌}
 use mathlib.Core.Path.{◌≡◌, refl, sym, ◌∙◌}
 use mathlib.Core.Bool.{Bool, true, false, cond, ◌&&◌, ◌||◌, not, and-false}
@@ -13,25 +14,23 @@ use Rattle.common.specs.Bits.{bit_set}
 use Rattle.common.specs.Cases.{bool_is, absurd_eq, and_left, and_right, lt_or_ge}
 use Rattle.memory.specs.Memory.{Memory, good_map, inside, byte_at, read_at, word_spots}
 use Rattle.memory.specs.Memory.Laws.{SameMap, inside_map, inside_bounds}
-use Rattle.memory.specs.declared.Content.TheVariants.{Value}
+use Rattle.mmu.specs.declared.walk.WalkFault.TheVariants.{Missing}
 use Rattle.mmu.specs.Opened.{TableByte, Opened}
 use Rattle.mmu.specs.Walk.{word_of_table, walk_of}
 use Rattle.mmu.specs.Check.{page_addr}
 use Rattle.mmu.specs.declared.exception.Access.{Access}
 use Rattle.mmu.specs.declared.exception.Access.TheVariants.{Write}
 use Rattle.mmu.specs.declared.vm.Vm.{Vm}
-use Rattle.mmu.specs.declared.walk.Walked.TheVariants.{Leaf, Missing}
 use Rattle.mmu.specs.Walk.Laws.{leaf_by_bits}
 use Rattle.mmu.specs.Vm.Laws.{no_entries_lem}
 use Rattle.tables.specs.declared.mapping.Mapping.{Mapping}
 use Rattle.tables.specs.declared.refusal.Refusal.{Refusal}
 use Rattle.tables.specs.declared.refusal.Refusal.TheVariants as refusal
 use Rattle.tables.specs.declared.write.Tables.{Tables}
-use Rattle.tables.specs.declared.write.Tables.TheVariants.{Written, Refused}
 use Rattle.tables.specs.Mapping.{mapping, mappings, leaf_at, only_listed, good_page, good_mapping, all_good, ascending_from, good_list}
 use Rattle.tables.specs.Mapping.Laws.{good_short, good_ppns, good_bits_lem, good_ascending, pages_of, ascending_pairs, pairs_ascending}
 use Rattle.tables.specs.Words.Laws.{put_words_map}
-use Rattle.tables.specs.Tables.{directories_after, directories, table_for, frames_for, good_run, image, answer_for, by_answer, memory_after, Call, list_of, answer_to, after}
+use Rattle.tables.specs.Tables.{directories_after, directories, table_for, frames_for, good_run, image, written, answer_for, by_answer, memory_after, Call, list_of, answer_to, after}
 use Rattle.tables.specs.Tables.Laws.{Accepted, accepted, run_aligned, run_covered}
 use Rattle.tables.specs.Found.{made, Listed, entry_of, InFrames, NoEntry, Opens}
 use Rattle.tables.specs.Found.Laws.{answer_ptbr, answer_used, written_memory, listed_good, pages_ascend, bytes_outside}
@@ -58,10 +57,10 @@ module _ (c : Call) (ptbr used : ℕ) (w : Wrote c ptbr used) where
   said : (P : Memory → ℕ → ℕ → Type 0) → P (made c) c.first (frames_for c.vpns) → P (after c) ptbr used
   said P p = rw (memory_is, ptbr_is, used_is) p
 
-  level1_words : (i : ℕ) → i < 1024 → read_at (after c) (word_spots (ptbr + 4 * i)) ≡ Value (table_for ptbr i (directories c.vpns))
+  level1_words : (i : ℕ) → i < 1024 → read_at (after c) (word_spots (ptbr + 4 * i)) ≡ Some (table_for ptbr i (directories c.vpns))
   level1_words i h =
       let at : word_of_table c.first i ≡ c.first + 4 * i = omega (arith, run_aligned c good) in
-      said (λ m p u. read_at m (word_spots (p + 4 * i)) ≡ Value (table_for p i (directories c.vpns)))
+      said (λ m p u. read_at m (word_spots (p + 4 * i)) ≡ Some (table_for p i (directories c.vpns)))
       (rw at at (word_of_level1 c good i h))
 
   table_byte : (a : ℕ) → TableByte (after c) ptbr a → InFrames ptbr used a
@@ -77,7 +76,7 @@ later vs j used e h = omega arith
 
 -- ---- of what is refused
 
-first_refused : (c : Call) (r : Refusal) → Applies c r → answer_to c ≡ Refused r
+first_refused : (c : Call) (r : Refusal) → Applies c r → answer_to c ≡ Err r
 unfolding answer_for
 first_refused c refusal.Map h = rw h
 first_refused c refusal.Order h = rw (h.0, h.1)
@@ -87,7 +86,7 @@ first_refused c refusal.Frames h = rw (h.0, h.1, h.2, h.3, h.4)
 
 -- by what the five questions are answered
 which : (m l v n f : Bool) (first used : ℕ) (r : Refusal)
-    → cond m (cond l (cond v (cond n (cond f (Written first used) (Refused refusal.Frames)) (Refused refusal.Run)) (Refused refusal.Leaf)) (Refused refusal.Order)) (Refused refusal.Map) ≡ Refused r
+    → cond m (cond l (cond v (cond n (cond f (Ok (written first used)) (Err refusal.Frames)) (Err refusal.Run)) (Err refusal.Leaf)) (Err refusal.Order)) (Err refusal.Map) ≡ Err r
     → First r m l v n f
 which false l v n f first used r e = let z : refusal.Map ≡ r = cc in rw (← z) refl
 which true false v n f first used r e = let z : refusal.Order ≡ r = cc in rw (← z) (refl, refl)
@@ -96,7 +95,7 @@ which true true true false f first used r e = let z : refusal.Run ≡ r = cc in 
 which true true true true false first used r e = let z : refusal.Frames ≡ r = cc in rw (← z) (refl, refl, refl, refl, refl)
 which true true true true true first used r e = absurd_eq (cc)
 
-refused_first : (c : Call) (r : Refusal) → answer_to c ≡ Refused r → Applies c r
+refused_first : (c : Call) (r : Refusal) → answer_to c ≡ Err r → Applies c r
 unfolding answer_for
 refused_first c r e =
     which (good_map c.memory.base (length c.memory.bytes)) (good_list c.vpns c.ppns c.bits) (all_good (list_of c))
@@ -112,14 +111,14 @@ needed c g v =
     let pages = pages_of c.vpns c.ppns c.bits g in
     rw pages at (frames_counted (list_of c) (rw pages (good_ascending c.vpns c.ppns c.bits g)) v)
 
-refused_kept : (c : Call) (r : Refusal) → answer_to c ≡ Refused r → after c ≡ c.memory
+refused_kept : (c : Call) (r : Refusal) → answer_to c ≡ Err r → after c ≡ c.memory
 unfolding memory_after by_answer
 refused_kept c r e = rw e
 
-same_map : (m : Memory) (first : ℕ) (vs : List ℕ) (l : List Mapping) (r : Tables) → SameMap (by_answer m first vs l r) m
+same_map : (m : Memory) (first : ℕ) (vs : List ℕ) (l : List Mapping) (r : Result Tables Refusal) → SameMap (by_answer m first vs l r) m
 unfolding by_answer
-same_map m first vs l (Written p u) = put_words_map (image first vs l) m first
-same_map m first vs l (Refused r) = record { base = refl; size = refl }
+same_map m first vs l (Ok t) = put_words_map (image first vs l) m first
+same_map m first vs l (Err r) = record { base = refl; size = refl }
 
 list_parts : (vs ps bs : List ℕ) → good_list vs ps bs ≡ true → (length vs ≤ 512) × (length ps ≡ length vs) × (length bs ≡ length vs) × InOrder vs
 list_parts vs ps bs g = (good_short vs ps bs g, good_ppns vs ps bs g, good_bits_lem vs ps bs g, ascending_pairs 0 vs (good_ascending vs ps bs g))
@@ -190,7 +189,7 @@ run_good m first n h f = by_count (ℕ_discrete n 0)
         let high = inside_bounds m (first + 4096 * n - 1) (f (first + 4096 * n - 1) (omega arith, omega arith)) in
         rw (eq-eqb (first % 4096) 0 h, ne_eqb n 0 k, le-leb m.base first low.0, le-leb (first + 4096 * n) (m.base + length m.bytes) (omega arith))
 
-empty_written : (m : Memory) (first n : ℕ) → good_map m.base (length m.bytes) ≡ true → good_run m first n ≡ true → 1 ≤ n → answer_for m [] [] [] first n ≡ Written first 1
+empty_written : (m : Memory) (first n : ℕ) → good_map m.base (length m.bytes) ≡ true → good_run m first n ≡ true → 1 ≤ n → answer_for m [] [] [] first n ≡ Ok (written first 1)
 unfolding answer_for good_list ascending_from mappings all_good frames_for directories_after
 empty_written m first n g r h = rw (g, r, le-leb 1 n h)
 
@@ -201,12 +200,12 @@ unfolding memory_after
 meaning_holds =
     record {
       listed = λ c p u w va h x l e.
-          said c p u w (λ m q n. (walk_of m q va).walked ≡ Leaf (entry_of x)) (walk_listed c (good c p u w) va h x l e);
+          said c p u w (λ m q n. (walk_of m q va).walked ≡ Ok (entry_of x)) (walk_listed c (good c p u w) va h x l e);
       unlisted = λ c p u w va h f.
-          said c p u w (λ m q n. (walk_of m q va).walked ≡ Missing) (walk_unlisted c (good c p u w) va h f);
+          said c p u w (λ m q n. (walk_of m q va).walked ≡ Err Missing) (walk_unlisted c (good c p u w) va h f);
       first_frame = λ c p u w. (ptbr_is c p u w, used_is c p u w, level1_words c p u w);
       further_frames = λ c p u w j i h g.
-          said c p u w (λ m q n. read_at m (word_spots (q + 4096 * (j + 1) + 4 * i)) ≡ Value (leaf_at (get_or (directories c.vpns) j 0 * 1024 + i) (list_of c)))
+          said c p u w (λ m q n. read_at m (word_spots (q + 4096 * (j + 1) + 4 * i)) ≡ Some (leaf_at (get_or (directories c.vpns) j 0 * 1024 + i) (list_of c)))
           (word_of_table_lem c (good c p u w) j i (later c.vpns j u (used_is c p u w) h) g);
       ascending = λ c p u w. (
         pages_ascend c (good c p u w),

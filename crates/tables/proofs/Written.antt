@@ -1,42 +1,21 @@
 -- The ways through the tests of the run and through the writing of words. Assumes nothing.
-use Prim.Native.Nat.{ℕ, suc, ◌+◌, ◌-◌, ◌*◌, ◌/◌, ◌%◌, ◌≤◌, ◌<◌}
+use Prim.Native.Nat.{ℕ, suc, ◌+◌, ◌-◌, ◌*◌, ◌/◌, ◌≤◌, ◌<◌}
 use mathlib.Core.Path.{◌≡◌, refl, sym, ap, ◌∙◌}
-use mathlib.Core.Bool.{true, false}
+use mathlib.Core.Bool.{true}
 use mathlib.Core.List.{List, [], ◌∷◌}
 use native.Mathlib.Numerals.{add-one}
 use native.Mathlib.Omega.{arith}
-use lib.Dec.{leb}
 use lib.ListN.{length, get_or, drop, drop_of_length-le}
 use lib.Seq.{drop-cons}
-use borrow.Author.Tests.{le-leb, lt-leb, eq-eqb, ne_eqb}
-use Rattle.memory.specs.Memory.{lent}
+use borrow.Author.Tests.{eq-eqb, ne_eqb}
+use Rattle.common.specs.Bytes.{bytes_of}
+use Rattle.memory.specs.Memory.{lent, put_at, word_spots}
 use Rattle.tables.specs.Mapping.{mapping, mappings, good_list}
 use Rattle.tables.specs.Mapping.Laws.{mapping_next, none_left}
 use Rattle.tables.specs.Words.{put_word, put_words, words_of}
 use Rattle.tables.specs.Words.Laws.{lent_word, lent_words, words_next, words_none, put_words_append, put_words_map}
 use Rattle.tables.specs.Tables.Laws.{level2_size}
-use Rattle.tables.specs.Tables.{directories_after, table_for, level2, tables_after, frames_for, good_run}
-
--- ---- `good_run`
-
-module _ (base : ℕ) (l : List ℕ) (first n : ℕ) where
-  pub run_unaligned : (first % 4096 ≡ 0 → ⊥) → false ≡ good_run (lent base l) first n
-  unfolding good_run
-  run_unaligned h = rw (ne_eqb (first % 4096) 0 h)
-
-  module _ (h : first % 4096 ≡ 0) where
-    pub run_empty : n ≡ 0 → true ≡ good_run (lent base l) first n
-    unfolding good_run
-    run_empty g = rw (eq-eqb (first % 4096) 0 h, eq-eqb n 0 g)
-
-    module _ (g : n ≡ 0 → ⊥) where
-      pub run_low : first < base → false ≡ good_run (lent base l) first n
-      unfolding good_run
-      run_low k = rw (eq-eqb (first % 4096) 0 h, ne_eqb n 0 g, lt-leb base first k)
-
-      pub run_end : base ≤ first → leb (first + 4096 * n) (base + length l) ≡ good_run (lent base l) first n
-      unfolding good_run
-      run_end k = rw (eq-eqb (first % 4096) 0 h, ne_eqb n 0 g, le-leb base first k)
+use Rattle.tables.specs.Tables.{directories_after, table_for, level2, tables_after, frames_for}
 
 -- ---- the directories from place k on
 
@@ -60,12 +39,12 @@ module _ (z u last k : ℕ) (vs : List ℕ) (p : z ≡ u + length (directories_a
   pub count_done : length vs ≤ k → u ≡ z
   count_done h = let e = ap length (no_more vs last k h) in omega arith
 
-  module _ (u' : ℕ) (h : k < length vs) where
-    pub count_same : get_or vs k 0 / 1024 ≡ last → u' ≡ u → z ≡ u' + length (directories_after (get_or vs k 0 / 1024) (drop (k + 1) vs))
-    count_same e q = let d = ap length (same_directory vs last k h e) in omega arith
+  module _ (u' next : ℕ) (h : k < length vs) where
+    pub count_same : get_or vs k 0 / 1024 ≡ last → u' ≡ u → next ≡ get_or vs k 0 / 1024 → z ≡ u' + length (directories_after next (drop (k + 1) vs))
+    count_same e q r = let d = ap length (same_directory vs last k h e) in rw r (omega arith)
 
-    pub count_new : (get_or vs k 0 / 1024 ≡ last → ⊥) → u' ≡ u + 1 → z ≡ u' + length (directories_after (get_or vs k 0 / 1024) (drop (k + 1) vs))
-    count_new e q = let d = ap length (new_directory vs last k h e) in omega arith
+    pub count_new : (get_or vs k 0 / 1024 ≡ last → ⊥) → u' ≡ u + 1 → next ≡ get_or vs k 0 / 1024 → z ≡ u' + length (directories_after next (drop (k + 1) vs))
+    count_new e q r = let d = ap length (new_directory vs last k h e) in rw r (omega arith)
 
 pub frames_some : (vs : List ℕ) → 1 ≤ frames_for vs
 unfolding frames_for
@@ -79,12 +58,12 @@ pub room_whole : (first : ℕ) (vs : List ℕ) → Room (first + 4096 * frames_f
 unfolding frames_for
 room_whole first vs = refl
 
-module _ (z frame frame' last k : ℕ) (vs : List ℕ) (p : Room z frame last k vs) (h : k < length vs) where
-  pub room_same : get_or vs k 0 / 1024 ≡ last → frame' ≡ frame → Room z frame' (get_or vs k 0 / 1024) (k + 1) vs
-  room_same e q = let d = ap length (same_directory vs last k h e) in omega arith
+module _ (z frame frame' last next k : ℕ) (vs : List ℕ) (p : Room z frame last k vs) (h : k < length vs) where
+  pub room_same : get_or vs k 0 / 1024 ≡ last → frame' ≡ frame → next ≡ get_or vs k 0 / 1024 → Room z frame' next (k + 1) vs
+  room_same e q r = let d = ap length (same_directory vs last k h e) in rw r (omega arith)
 
-  pub room_new : (get_or vs k 0 / 1024 ≡ last → ⊥) → frame' ≡ frame + 4096 → Room z frame' (get_or vs k 0 / 1024) (k + 1) vs
-  room_new e q = let d = ap length (new_directory vs last k h e) in omega arith
+  pub room_new : (get_or vs k 0 / 1024 ≡ last → ⊥) → frame' ≡ frame + 4096 → next ≡ get_or vs k 0 / 1024 → Room z frame' next (k + 1) vs
+  room_new e q r = let d = ap length (new_directory vs last k h e) in rw r (omega arith)
 
   pub room_here : (get_or vs k 0 / 1024 ≡ last → ⊥) → frame + 8192 ≤ z
   room_here e = let d = ap length (new_directory vs last k h e) in omega arith
@@ -100,13 +79,14 @@ module _ (z frame i last k : ℕ) (vs : List ℕ) (p : z ≡ table_for frame i (
     unfolding table_for
     table_here e g = sym (p ∙ rw (new_directory vs last k h e, eq-eqb (get_or vs k 0 / 1024) i g))
 
-    pub table_same : (frame' : ℕ) → get_or vs k 0 / 1024 ≡ last → frame' ≡ frame → z ≡ table_for frame' i (directories_after (get_or vs k 0 / 1024) (drop (k + 1) vs))
-    table_same frame' e q = p ∙ rw (same_directory vs last k h e, q)
+    pub table_same : (frame' next : ℕ) → get_or vs k 0 / 1024 ≡ last → frame' ≡ frame → next ≡ get_or vs k 0 / 1024
+        → z ≡ table_for frame' i (directories_after next (drop (k + 1) vs))
+    table_same frame' next e q r = p ∙ rw (same_directory vs last k h e, q, r)
 
-    pub table_later : (frame' : ℕ) → (get_or vs k 0 / 1024 ≡ last → ⊥) → (get_or vs k 0 / 1024 ≡ i → ⊥) → frame' ≡ frame + 4096
-        → z ≡ table_for frame' i (directories_after (get_or vs k 0 / 1024) (drop (k + 1) vs))
+    pub table_later : (frame' next : ℕ) → (get_or vs k 0 / 1024 ≡ last → ⊥) → (get_or vs k 0 / 1024 ≡ i → ⊥) → frame' ≡ frame + 4096
+        → next ≡ get_or vs k 0 / 1024 → z ≡ table_for frame' i (directories_after next (drop (k + 1) vs))
     unfolding table_for
-    table_later frame' e g q = p ∙ rw (new_directory vs last k h e, ne_eqb (get_or vs k 0 / 1024) i g, q)
+    table_later frame' next e g q r = p ∙ rw (new_directory vs last k h e, ne_eqb (get_or vs k 0 / 1024) i g, q, r)
 
 -- ---- the words of one table, one after the other
 
@@ -118,8 +98,9 @@ words_begin base l f a j =
     rw (e, g)
 
 module _ (z l : List ℕ) (base : ℕ) (f : ℕ → ℕ) (a j i : ℕ) (p : z ≡ (put_words (lent base l) (a + i * 4) (words_of f (j + i) (1024 - i))).bytes) where
-  pub words_turn : (l' : List ℕ) (w v : ℕ) → i < 1024 → v ≡ j + i → w ≡ f v → l' ≡ (put_word (lent base l) (a + i * 4) w).bytes
+  pub words_turn : (l' : List ℕ) (w v : ℕ) → i < 1024 → v ≡ j + i → w ≡ f v → l' ≡ (put_at (lent base l) (word_spots (a + i * 4)) (bytes_of 4 w)).bytes
       → z ≡ (put_words (lent base l') (a + (i + 1) * 4) (words_of f (j + (i + 1)) (1024 - (i + 1)))).bytes
+  unfolding put_word
   words_turn l' w v h u e q =
       let n : 1024 - i ≡ suc (1024 - (i + 1)) = omega arith in
       let at : a + i * 4 + 4 ≡ a + (i + 1) * 4 = omega arith in

@@ -7,24 +7,22 @@
 --   indexes vs                         == the level-1 word of each page
 --   distinct l                         == how many numbers l has, each counted once
 --   Meaning                            == the laws, one field a sentence
-use Rattle.std.specs.Prelude.{ℕ, suc, ◌+◌, ◌*◌, ◌/◌, ◌%◌, ◌^◌, ◌≤◌, ◌<◌, ◌≡◌, Bool, true, false, cond, ◌||◌, List, [], ◌∷◌, map, leb, eqb, length, get_or}
+use Rattle.std.specs.Prelude.{ℕ, suc, ◌+◌, ◌*◌, ◌/◌, ◌%◌, ◌^◌, ◌≤◌, ◌<◌, ◌≡◌, Bool, true, false, cond, ◌||◌, List, [], ◌∷◌, map, leb, eqb, length, get_or, Some, Ok, Err}
 use Rattle.common.specs.Bits.{bit_set}
 use Rattle.memory.specs.Memory.{Memory, good_map, byte_at, read_at, word_spots, inside}
 use Rattle.memory.specs.Memory.Laws.{SameMap}
-use Rattle.memory.specs.declared.Content.TheVariants.{Value}
+use Rattle.mmu.specs.declared.walk.WalkFault.TheVariants.{Missing}
 use Rattle.mmu.specs.Opened.{TableByte, Opened}
 use Rattle.mmu.specs.Vm.{flushed}
 use Rattle.mmu.specs.Walk.{walk_of}
 use Rattle.mmu.specs.declared.exception.Access.{Access}
 use Rattle.mmu.specs.declared.exception.Access.TheVariants.{Write}
 use Rattle.mmu.specs.declared.vm.Vm.{Vm}
-use Rattle.mmu.specs.declared.walk.Walked.TheVariants.{Leaf, Missing}
 use Rattle.tables.specs.declared.mapping.Mapping.{Mapping}
 use Rattle.tables.specs.declared.refusal.Refusal.{Refusal}
 use Rattle.tables.specs.declared.refusal.Refusal.TheVariants as refusal
-use Rattle.tables.specs.declared.write.Tables.TheVariants.{Written, Refused}
 use Rattle.tables.specs.Mapping.{mapping, leaf_at, only_listed, good_mapping, all_good, ascending_from, good_list}
-use Rattle.tables.specs.Tables.{directories, table_for, frames_for, good_run, answer_for, Call, list_of, answer_to, after}
+use Rattle.tables.specs.Tables.{directories, table_for, frames_for, good_run, written, answer_for, Call, list_of, answer_to, after}
 use Rattle.tables.specs.Found.{Listed, entry_of, InFrames, NoEntry, Opens}
 
 -- each number above those before it
@@ -32,7 +30,7 @@ abbrev pub InOrder : List ℕ → Type 0
 InOrder l = (j k : ℕ) → j < k → k < length l → get_or l j 0 < get_or l k 0
 
 abbrev pub Wrote : Call → ℕ → ℕ → Type 0
-Wrote c ptbr used = answer_to c ≡ Written ptbr used
+Wrote c ptbr used = answer_to c ≡ Ok (written ptbr used)
 
 -- "in that order after 2": map, list, leaves, run and frames are asked one after the other, and the first that is not good is told
 abbrev pub First : Refusal → Bool → Bool → Bool → Bool → Bool → Type 0
@@ -62,17 +60,17 @@ distinct (x ∷ l) = cond (occurs x l) (distinct l) (suc (distinct l))
 pub record Meaning : Type 0 where
   -- "A walk from the new PTBR must find exactly the listed mappings": of a listed page its frame and its bits,
   pub listed : (c : Call) (ptbr used : ℕ) → Wrote c ptbr used → (va : ℕ) → va < 2 ^ 32 → (x : Mapping) → Listed x (list_of c) → x.vpn ≡ va / 4096
-      → (walk_of (after c) ptbr va).walked ≡ Leaf (entry_of x)
+      → (walk_of (after c) ptbr va).walked ≡ Ok (entry_of x)
   -- and of any other page nothing
   pub unlisted : (c : Call) (ptbr used : ℕ) → Wrote c ptbr used → (va : ℕ) → va < 2 ^ 32 → ((x : Mapping) → Listed x (list_of c) → x.vpn ≡ va / 4096 → ⊥)
-      → (walk_of (after c) ptbr va).walked ≡ Missing
+      → (walk_of (after c) ptbr va).walked ≡ Err Missing
   -- "The first frame becomes the level-1 table": its words, where each directory's table stands in the frame of its place
   pub first_frame : (c : Call) (ptbr used : ℕ) → Wrote c ptbr used
       → (ptbr ≡ c.first) × (used ≡ frames_for c.vpns)
-      × ((i : ℕ) → i < 1024 → read_at (after c) (word_spots (ptbr + 4 * i)) ≡ Value (table_for ptbr i (directories c.vpns)))
+      × ((i : ℕ) → i < 1024 → read_at (after c) (word_spots (ptbr + 4 * i)) ≡ Some (table_for ptbr i (directories c.vpns)))
   -- "each further one a level-2 table": the words of the table in the frame number j + 1, "a leaf its listed bits too, and all else is zero"
   pub further_frames : (c : Call) (ptbr used : ℕ) → Wrote c ptbr used → (j i : ℕ) → j + 1 < used → i < 1024
-      → read_at (after c) (word_spots (ptbr + 4096 * (j + 1) + 4 * i)) ≡ Value (leaf_at (get_or (directories c.vpns) j 0 * 1024 + i) (list_of c))
+      → read_at (after c) (word_spots (ptbr + 4096 * (j + 1) + 4 * i)) ≡ Some (leaf_at (get_or (directories c.vpns) j 0 * 1024 + i) (list_of c))
   -- "in ascending order, lowest frame first"
   pub ascending : (c : Call) (ptbr used : ℕ) → Wrote c ptbr used
       → (ascending_from 0 (directories c.vpns) ≡ true)
@@ -85,10 +83,10 @@ pub record Meaning : Type 0 where
   pub outside_stays : (c : Call) (ptbr used : ℕ) → Wrote c ptbr used → (a : ℕ) → (InFrames ptbr used a → ⊥) → byte_at (after c) a ≡ byte_at c.memory a
   pub map_stays : (c : Call) → SameMap (after c) c.memory
   -- "a refused call writes nothing"
-  pub refused_stays : (c : Call) (r : Refusal) → answer_to c ≡ Refused r → after c ≡ c.memory
+  pub refused_stays : (c : Call) (r : Refusal) → answer_to c ≡ Err r → after c ≡ c.memory
   -- "Refusals: 9 .., 10 .., 11 .., 12 .., in that order after 2": a refusal is given exactly where it is the first that applies
-  pub refused : (c : Call) (r : Refusal) → Applies c r → answer_to c ≡ Refused r
-  pub refused_only : (c : Call) (r : Refusal) → answer_to c ≡ Refused r → Applies c r
+  pub refused : (c : Call) (r : Refusal) → Applies c r → answer_to c ≡ Err r
+  pub refused_only : (c : Call) (r : Refusal) → answer_to c ≡ Err r → Applies c r
   -- 9 exactly where a list is over 512, out of order or has a repeat, or the lists do not fit together
   pub list_accepted : (vs ps bs : List ℕ) → length vs ≤ 512 → length ps ≡ length vs → length bs ≡ length vs → InOrder vs → good_list vs ps bs ≡ true
   pub list_is : (vs ps bs : List ℕ) → good_list vs ps bs ≡ true → (length vs ≤ 512) × (length ps ≡ length vs) × (length bs ≡ length vs) × InOrder vs
@@ -113,7 +111,7 @@ pub record Meaning : Type 0 where
   pub none_needless : (c : Call) (ptbr used : ℕ) → Wrote c ptbr used → used ≡ 1 + distinct (indexes c.vpns)
   -- an empty list is good and needs one frame
   pub empty_list : (m : Memory) (first n : ℕ) → good_map m.base (length m.bytes) ≡ true → good_run m first n ≡ true → 1 ≤ n
-      → answer_for m [] [] [] first n ≡ Written first 1
+      → answer_for m [] [] [] first n ≡ Ok (written first 1)
   -- for isolation: the bytes of the tables are those of the used frames,
   pub table_bytes : (c : Call) (ptbr used : ℕ) → Wrote c ptbr used → (a : ℕ) → TableByte (after c) ptbr a → InFrames ptbr used a
   pub all_table_bytes : (c : Call) (ptbr used : ℕ) → Wrote c ptbr used → (a : ℕ) → InFrames ptbr used a → TableByte (after c) ptbr a

@@ -9,18 +9,19 @@
 --   image first vs l         == all words that are written: level 1, then each level-2 table
 --   frames_for vs            == frames that the pages vs need
 --   good_run m first n       == a run of n frames from first on is aligned and has no byte outside the map: refusal 11 else
+--   written ptbr used        == the answer where level 1 stands at ptbr and so many frames are used
 --   answer_for, memory_after == what the writer answers, and the memory that it leaves
 --   Call                     == the writer's arguments; list_of, answer_to, after: its list, its answer and the memory that it leaves
 --
 -- Choices that a reader may question. Every word of a used frame is written, so nothing depends on what stood there. A run is judged
 -- whole, also its frames that are not needed; those keep their bytes. A run of no frames has no byte outside. That a mapping leads to a
 -- frame of the tables is not refused.
-use Rattle.std.specs.Prelude.{ℕ, ◌+◌, ◌*◌, ◌/◌, ◌%◌, Bool, cond, ◌&&◌, ◌||◌, List, [], ◌∷◌, ◌++◌, leb, eqb, length}
+use Rattle.std.specs.Prelude.{ℕ, ◌+◌, ◌*◌, ◌/◌, ◌%◌, Bool, cond, ◌&&◌, ◌||◌, List, [], ◌∷◌, ◌++◌, leb, eqb, length, Result, Ok, Err}
 use Rattle.memory.specs.Memory.{Memory, good_map}
 use Rattle.tables.specs.declared.mapping.Mapping.{Mapping}
+use Rattle.tables.specs.declared.refusal.Refusal.{Refusal}
 use Rattle.tables.specs.declared.refusal.Refusal.TheVariants.{Map, Order, Leaf, Run, Frames}
 use Rattle.tables.specs.declared.write.Tables.{Tables}
-use Rattle.tables.specs.declared.write.Tables.TheVariants.{Written, Refused}
 use Rattle.tables.specs.Mapping.{mappings, leaf_at, all_good, good_list}
 use Rattle.tables.specs.Words.{put_words, words_of}
 pub mod Laws
@@ -61,22 +62,26 @@ unfoldable pub good_run : Memory → ℕ → ℕ → Bool
 good_run m first n =
     eqb (first % 4096) 0 && (eqb n 0 || (leb m.base first && leb (first + 4096 * n) (m.base + length m.bytes)))
 
-unfoldable pub answer_for : Memory → List ℕ → List ℕ → List ℕ → ℕ → ℕ → Tables
+-- the answer of a call that wrote
+abbrev pub written : ℕ → ℕ → Tables
+written ptbr used = record { ptbr = ptbr; used = used }
+
+unfoldable pub answer_for : Memory → List ℕ → List ℕ → List ℕ → ℕ → ℕ → Result Tables Refusal
 answer_for m vs ps bs first n =
     cond (good_map m.base (length m.bytes))
     (cond (good_list vs ps bs)
     (cond (all_good (mappings vs ps bs))
     (cond (good_run m first n)
-    (cond (leb (frames_for vs) n) (Written first (frames_for vs)) (Refused Frames))
-    (Refused Run))
-    (Refused Leaf))
-    (Refused Order))
-    (Refused Map)
+    (cond (leb (frames_for vs) n) (Ok (written first (frames_for vs))) (Err Frames))
+    (Err Run))
+    (Err Leaf))
+    (Err Order))
+    (Err Map)
 
 -- "a refused call writes nothing"
-unfoldable pub by_answer : Memory → ℕ → List ℕ → List Mapping → Tables → Memory
-by_answer m first vs l (Written ptbr used) = put_words m first (image first vs l)
-by_answer m first vs l (Refused r) = m
+unfoldable pub by_answer : Memory → ℕ → List ℕ → List Mapping → Result Tables Refusal → Memory
+by_answer m first vs l (Ok t) = put_words m first (image first vs l)
+by_answer m first vs l (Err r) = m
 
 unfoldable pub memory_after : Memory → List ℕ → List ℕ → List ℕ → ℕ → ℕ → Memory
 memory_after m vs ps bs first n = by_answer m first vs (mappings vs ps bs) (answer_for m vs ps bs first n)
@@ -94,7 +99,7 @@ pub record Call : Type 0 where
 abbrev pub list_of : Call → List Mapping
 list_of c = mappings c.vpns c.ppns c.bits
 
-abbrev pub answer_to : Call → Tables
+abbrev pub answer_to : Call → Result Tables Refusal
 answer_to c = answer_for c.memory c.vpns c.ppns c.bits c.first c.frames
 
 abbrev pub after : Call → Memory

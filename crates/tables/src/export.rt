@@ -4,6 +4,7 @@ ghost use Rattle.memory.specs.Memory.{lent};
 ghost use Rattle.tables.specs.Refusal.{in_numbers};
 ghost use Rattle.tables.specs.Tables.{answer_for, memory_after};
 
+use crate::refusal::Refusal;
 use crate::write::{Tables, write_tables};
 
 // `refusal` is 0 where the tables are written; else it is the refusal's number and the others are 0.
@@ -15,16 +16,17 @@ pub struct TablesAnswer {
     pub used: u32,
 }
 
-fn in_numbers(answer: Tables) -> TablesAnswer
+#[tactic(auto, unfolding(crate::specs::Refusal::in_numbers))]
+fn in_numbers(answer: Result<Tables, Refusal>) -> TablesAnswer
     ensures { result ≡ in_numbers answer }
 {
     match answer {
-        Tables::Written { ptbr, used } => TablesAnswer {
+        Ok(Tables { ptbr, used }) => TablesAnswer {
             refusal: 0,
             ptbr,
             used,
         },
-        Tables::Refused(refusal) => TablesAnswer {
+        Err(refusal) => TablesAnswer {
             refusal: refusal.number(),
             ptbr: 0,
             used: 0,

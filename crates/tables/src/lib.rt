@@ -6,9 +6,9 @@
 ghost use Rattle.tables.specs.Meaning.{Meaning};
 
 pub mod export;
+mod list;
 pub mod mapping;
 pub mod refusal;
-pub mod words;
 pub mod write;
 
 // What the contracts mean: W-201's sentences, and what isolation needs of the written tables.

@@ -2,29 +2,24 @@
 ghost use Rattle.std.specs.Prelude.{◌≡◌};
 ghost use Rattle.tables.specs.Refusal.{refusal_number};
 
-#[derive(Drop)]
+#[derive(Clone, Copy)]
 pub enum Refusal {
-    Map,
+    Map = 2,
     // Over 512, out of order or with a repeat, or slices of other lengths.
-    Order,
+    Order = 9,
     // A leaf that a walk would not accept, or a page at or above 0xFFFF0000.
-    Leaf,
+    Leaf = 10,
     // A run that is unaligned or has a byte outside the map.
-    Run,
+    Run = 11,
     // Too few frames.
-    Frames,
+    Frames = 12,
 }
 
 impl Refusal {
+    #[tactic(auto, unfolding(crate::specs::Refusal::refusal_number))]
     pub fn number(self) -> u32
         ensures { result ≡ refusal_number self }
     {
-        match self {
-            Refusal::Map => 2,
-            Refusal::Order => 9,
-            Refusal::Leaf => 10,
-            Refusal::Run => 11,
-            Refusal::Frames => 12,
-        }
+        self as u32
     }
 }

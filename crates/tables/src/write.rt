@@ -1,14 +1,14 @@
 // The writer: what it refuses, and the words of the tables, frame by frame.
-ghost use Rattle.std.specs.Prelude.{◌≡◌, true, ◌+◌, ◌*◌, ◌<◌, ◌≤◌, ◌^◌, length, drop};
+ghost use Rattle.std.specs.Prelude.{◌≡◌, ◌+◌, ◌*◌, ◌<◌, ◌≤◌, ◌^◌, length, drop};
 ghost use Rattle.memory.specs.Memory.{lent};
-ghost use Rattle.tables.specs.Mapping.{mappings, good_list};
+ghost use Rattle.tables.specs.Mapping.{mappings};
 ghost use Rattle.tables.specs.Words.{put_words};
 ghost use Rattle.tables.specs.Tables.{directories, table_for, level1, level2, tables_after, good_run, frames_for, answer_for, memory_after};
 
-use crate::mapping::{all_good, good_list, leaf_at};
+use crate::list::List;
 use crate::refusal::Refusal;
-use crate::words::put_word;
 use memory::good_map;
+use memory::span::put_word;
 
 const PAGE_SIZE: u32 = 4096;
 
@@ -18,27 +18,21 @@ const TABLE_WORDS: u32 = 1024;
 // No page below 2^20 has this directory.
 const NO_DIRECTORY: u32 = 1024;
 
-#[derive(Drop)]
-pub enum Tables {
-    // The tables stand in the first `used` frames of the run, level 1 at `ptbr`.
-    Written { ptbr: u32, used: u32 },
-    Refused(Refusal),
+// The tables stand in the first `used` frames of the run, level 1 at `ptbr`.
+#[derive(Clone, Copy)]
+pub struct Tables {
+    pub ptbr: u32,
+    pub used: u32,
 }
 
 // Refusal 11 is given exactly where this is false.
+#[tactic(auto, unfolding(crate::specs::Tables::good_run))]
 fn good_run(mem: &[u8], base: u32, first: u32, frames: u32) -> bool
     ensures { result ≡ good_run (lent base mem.now) first frames }
 {
-    if first % PAGE_SIZE != 0 {
-        return false;
-    }
-    if frames == 0 {
-        return true;
-    }
-    if first < base {
-        return false;
-    }
-    (first as u64) + 4096 * (frames as u64) <= (base as u64) + (mem.len() as u64)
+    let end = (first as u64) + 4096 * (frames as u64);
+    let map_end = (base as u64) + (mem.len() as u64);
+    first % PAGE_SIZE == 0 && (frames == 0 || (first >= base && end <= map_end))
 }
 
 // Frames that the list needs: one for level 1, and one for each directory.
@@ -48,14 +42,12 @@ fn frames_for(vpns: &[u32]) -> u32
 {
     let mut used: u32 = 1;
     let mut last = NO_DIRECTORY;
-    let mut k: usize = 0;
-    while k < vpns.len() {
-        let directory = vpns[k] / TABLE_WORDS;
+    for &vpn in vpns {
+        let directory = vpn / TABLE_WORDS;
         if directory != last {
             used += 1;
         }
         last = directory;
-        k += 1;
     }
     used
 }
@@ -67,9 +59,8 @@ fn table_word(vpns: &[u32], first: u32, wanted: u32) -> u32
 {
     let mut frame = first;
     let mut last = NO_DIRECTORY;
-    let mut k: usize = 0;
-    while k < vpns.len() {
-        let directory = vpns[k] / TABLE_WORDS;
+    for &vpn in vpns {
+        let directory = vpn / TABLE_WORDS;
         if directory != last {
             frame += PAGE_SIZE;
             if directory == wanted {
@@ -77,7 +68,6 @@ fn table_word(vpns: &[u32], first: u32, wanted: u32) -> u32
             }
         }
         last = directory;
-        k += 1;
     }
     0
 }
@@ -86,86 +76,43 @@ fn write_level1(mem: &mut [u8], base: u32, first: u32, vpns: &[u32])
     requires { first + 4096 * frames_for vpns.now < 2 ^ 32 }
     ensures { mem.new ≡ (put_words (lent base mem.old) first (level1 first (directories vpns.now))).bytes }
 {
-    let mut directory: u32 = 0;
-    while directory < TABLE_WORDS {
+    for directory in 0..TABLE_WORDS {
         let word = table_word(vpns, first, directory);
         put_word(mem, base, first + directory * 4, word);
-        directory += 1;
     }
 }
 
 // The table of one directory, whose first page is mapping `from`.
-fn write_table(
-    mem: &mut [u8],
-    base: u32,
-    frame: u32,
-    directory: u32,
-    vpns: &[u32],
-    ppns: &[u32],
-    bits: &[u8],
-    from: usize,
-)
-    requires { (good_list vpns.now ppns.now bits.now ≡ true) × (frame + 4096 < 2 ^ 32) × (directory < 2 ^ 22) }
-    ensures { mem.new ≡ (put_words (lent base mem.old) frame (level2 directory (drop from (mappings vpns.now ppns.now bits.now)))).bytes }
+fn write_table(mem: &mut [u8], base: u32, frame: u32, directory: u32, list: List, from: usize)
+    requires { (from ≤ length list.vpns.now) × (frame + 4096 < 2 ^ 32) × (directory < 2 ^ 22) }
+    ensures { mem.new ≡ (put_words (lent base mem.old) frame (level2 directory (drop from (mappings list.entry.vpns.now list.entry.ppns.now list.entry.bits.now)))).bytes }
 {
-    let mut i: u32 = 0;
-    while i < TABLE_WORDS {
-        let word = leaf_at(vpns, ppns, bits, from, directory * TABLE_WORDS + i);
+    for i in 0..TABLE_WORDS {
+        let word = list.leaf_at(from, directory * TABLE_WORDS + i);
         put_word(mem, base, frame + i * 4, word);
-        i += 1;
     }
 }
 
 // A table for each directory, in the frames after the first.
-fn write_level2(mem: &mut [u8], base: u32, first: u32, vpns: &[u32], ppns: &[u32], bits: &[u8])
-    requires { (good_list vpns.now ppns.now bits.now ≡ true) × (first + 4096 * frames_for vpns.now < 2 ^ 32) }
-    ensures { mem.new ≡ (put_words (lent base mem.old) (first + 4096) (tables_after 1024 (mappings vpns.now ppns.now bits.now))).bytes }
+fn write_level2(mem: &mut [u8], base: u32, first: u32, list: List)
+    requires { first + 4096 * frames_for list.vpns.now < 2 ^ 32 }
+    ensures { mem.new ≡ (put_words (lent base mem.old) (first + 4096) (tables_after 1024 (mappings list.entry.vpns.now list.entry.ppns.now list.entry.bits.now))).bytes }
 {
     let mut frame = first;
     let mut last = NO_DIRECTORY;
-    let mut k: usize = 0;
-    while k < vpns.len() {
+    let vpns = list.vpns;
+    for k in 0..vpns.len() {
         let directory = vpns[k] / TABLE_WORDS;
         if directory != last {
             frame += PAGE_SIZE;
-            write_table(mem, base, frame, directory, vpns, ppns, bits, k);
+            write_table(mem, base, frame, directory, list, k);
         }
         last = directory;
-        k += 1;
     }
 }
 
-fn judge(
-    mem: &[u8],
-    base: u32,
-    vpns: &[u32],
-    ppns: &[u32],
-    bits: &[u8],
-    first: u32,
-    frames: u32,
-) -> Tables
-    ensures { result ≡ answer_for (lent base mem.now) vpns.now ppns.now bits.now first frames }
-{
-    if !good_map(mem, base) {
-        return Tables::Refused(Refusal::Map);
-    }
-    if !good_list(vpns, ppns, bits) {
-        return Tables::Refused(Refusal::Order);
-    }
-    if !all_good(vpns, ppns, bits) {
-        return Tables::Refused(Refusal::Leaf);
-    }
-    if !good_run(mem, base, first, frames) {
-        return Tables::Refused(Refusal::Run);
-    }
-    let used = frames_for(vpns);
-    if frames < used {
-        return Tables::Refused(Refusal::Frames);
-    }
-    Tables::Written { ptbr: first, used }
-}
-
-// Writes the tables of a list of mappings into the lowest of `frames` frames from `first` on.
+// Writes the tables of a list of mappings into the lowest of `frames` frames from `first` on. C lends the list as three slices.
+#[tactic(auto, unfolding(crate::specs::Tables::answer_for, crate::specs::Tables::memory_after, crate::specs::Tables::by_answer))]
 pub fn write_tables(
     mem: &mut [u8],
     base: u32,
@@ -174,13 +121,24 @@ pub fn write_tables(
     bits: &[u8],
     first: u32,
     frames: u32,
-) -> Tables
+) -> Result<Tables, Refusal>
     ensures { (result ≡ answer_for (lent base mem.old) vpns.now ppns.now bits.now first frames) × (mem.new ≡ (memory_after (lent base mem.old) vpns.now ppns.now bits.now first frames).bytes) }
 {
-    let answer = judge(mem, base, vpns, ppns, bits, first, frames);
-    if let Tables::Written { ptbr: _, used: _ } = answer {
-        write_level1(mem, base, first, vpns);
-        write_level2(mem, base, first, vpns, ppns, bits);
+    if !good_map(mem, base) {
+        return Err(Refusal::Map);
     }
-    answer
+    let list = List::new(vpns, ppns, bits)?;
+    if !list.all_good() {
+        return Err(Refusal::Leaf);
+    }
+    if !good_run(mem, base, first, frames) {
+        return Err(Refusal::Run);
+    }
+    let used = frames_for(vpns);
+    if frames < used {
+        return Err(Refusal::Frames);
+    }
+    write_level1(mem, base, first, vpns);
+    write_level2(mem, base, first, list);
+    Ok(Tables { ptbr: first, used })
 }

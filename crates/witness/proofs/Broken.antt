@@ -1,17 +1,11 @@
 -- Demand 3 needs each of its premises. Assumes nothing.
 --
 -- In a counterexample the premises on hidden bytes and on tables follow from the memory's layout, the others compute, and so do the runs.
-use Prim.Native.Nat.{ℕ, ◌/◌}
-use mathlib.Core.Path.{◌≡◌, refl, sym, ap, ◌∙◌}
-use mathlib.Core.Bool.{Bool, true, false}
-use mathlib.Core.List.{List, [], ◌∷◌, map}
-use mathlib.Core.Logic.{◌≢◌}
-use lib.Dec.{lit<, eqb}
-use lib.ListN.{length}
+use Rattle.std.proofs.Common.{◌≡◌, ℕ, ◌/◌, Bool, true, false, eqb, ◌≢◌, List, [], ◌∷◌, map, length, Result, sym, refl, ap, ◌∙◌, lit<}
 use Rattle.common.specs.Cases.{absurd_eq}
 use Rattle.memory.specs.Memory.{Memory}
 use Rattle.mmu.specs.Tlb.{no_entry}
-use Rattle.machine.specs.declared.access.Outcome.{Outcome}
+use Rattle.machine.specs.declared.access.Fault.{Fault}
 use Rattle.machine.specs.declared.state.Machine.{Machine}
 use Rattle.privilege.specs.declared.state.SystemState.{SystemState}
 use Rattle.isolation.specs.Premises.{Op, AllAligned}
@@ -37,7 +31,7 @@ refuted c i = c.differ (sym c.answers ∙ i.answers ∙ c.answers')
 
 -- ---- how a counterexample is made
 
-outcomes : List Answer → List Outcome
+outcomes : List Answer → List (Result ℕ Fault)
 outcomes l = map (λ (x : Answer). x.outcome) l
 
 -- two runs of one access

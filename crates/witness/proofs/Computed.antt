@@ -7,17 +7,14 @@
 --
 -- What is read of a laid memory is taken from its list of words; all else computes from the definitions. This is the one file that opens those
 -- of other crates: an example is no law.
-use Prim.Native.Nat.{ℕ, ◌/◌, ◌%◌}
-use mathlib.Core.Path.{◌≡◌, refl, ap, ◌∙◌}
-use mathlib.Core.Bool.{true, false}
-use mathlib.Core.List.{[], ◌∷◌}
+use Rattle.std.proofs.Common.{◌≡◌, ℕ, ◌/◌, ◌%◌, true, false, [], ◌∷◌, Some, Ok, Err, refl, ap, ◌∙◌}
 use Rattle.common.specs.Bits.{bit_set}
 use Rattle.common.specs.Bytes.{bytes_of}
 use Rattle.cache.specs.Bank.{no_tags, accessed, line_dropped}
 use Rattle.cache.specs.Cache.{cacheable_at, loaded, stored}
 use Rattle.memory.specs.Gate.{access_gate}
 use Rattle.memory.specs.Memory.{Memory, byte_at, gathered, all_writable}
-use Rattle.memory.specs.declared.Content.TheVariants as content
+use Rattle.machine.specs.declared.access.Fault.TheVariants.{Exception}
 use Rattle.mmu.specs.Check.{permits, judged, by_walk, by_slot, check_with, check_page, after_page, check_each, pages_after, pages_of}
 use Rattle.mmu.specs.Tlb.{no_entry, matches, first_match}
 use Rattle.mmu.specs.Vm.{with_tlb, filled, frame_of}
@@ -29,9 +26,8 @@ use Rattle.privilege.specs.Addresses.{addresses}
 use Rattle.privilege.specs.Region.{grants_of, some_grants, all_allowed}
 use Rattle.privilege.specs.State.{with_vm}
 use Rattle.privilege.specs.Transfer.{physical_of, spots, load_at, store_at, memory_at}
-use Rattle.machine.specs.Access.{Result, access_answer, lines_of, presented, presented_each, read_outcome, write_outcome, data_outcome, data_memory, permitted, access_of}
+use Rattle.machine.specs.Access.{Effect, access_answer, lines_of, presented, presented_each, read_outcome, write_outcome, data_outcome, data_memory, permitted, access_of}
 use Rattle.machine.specs.State.{new_machine}
-use Rattle.machine.specs.declared.access.Outcome.TheVariants.{Value, Exception}
 use Rattle.machine.specs.declared.state.Machine.{Machine}
 use Rattle.isolation.specs.Premises.{Op}
 use Rattle.isolation.specs.Demand3.{Answer, result_of, answer_of, ran_ops}
@@ -47,7 +43,7 @@ use Rattle.witness.specs.Counterexamples.{readable, supervisor, untranslated, on
 unfoldable pub answer_to : Op → Machine → Memory → Answer
 answer_to o M m = answer_of (result_of o M m)
 
-abbrev pub left : Machine → Memory → Answer → Result
+abbrev pub left : Machine → Memory → Answer → Effect
 left M m x = record { accessed = access_answer M x.outcome x.stall x.reads; memory = m }
 
 pub ran_one : (o : Op) (M : Machine) (m : Memory) (x : Answer) → answer_to o M m ≡ x → (ran_ops (o ∷ []) M m).answers ≡ x ∷ []
@@ -58,7 +54,7 @@ pub ran_two : (o o' : Op) (M M' : Machine) (m m' : Memory) (x x' : Answer) → r
     → (ran_ops (o ∷ o' ∷ []) M m).answers ≡ x ∷ x' ∷ []
 unfolding ran_ops answer_to
 ran_two o o' M M' m m' x x' e e' =
-    ap (λ (r : Result). answer_of r ∷ answer_of (result_of o' r.accessed.machine r.memory) ∷ []) e ∙ ap (λ (y : Answer). x ∷ y ∷ []) e'
+    ap (λ (r : Effect). answer_of r ∷ answer_of (result_of o' r.accessed.machine r.memory) ∷ []) e ∙ ap (λ (y : Answer). x ∷ y ∷ []) e'
 
 -- ---- after a store
 
@@ -83,24 +79,24 @@ Both o M m x x' = (answer_to o M (m 0) ≡ x) × (answer_to o M (m 1) ≡ x')
 pub record Computed : Type 0 where
   -- the witness
   pub laid_out : (x : ℕ) → fits 0 1 2 ((3072, x) ∷ visible) ≡ true
-  pub secret : (x : ℕ) → byte_at (memory x) 0x3003 ≡ content.Value (x / 1 % 256)
-  pub loads : (x : ℕ) → answer_to (load 4 0) machine (memory x) ≡ answer (Value 0x1234_5678) 8 2
-  pub stores : (x : ℕ) → result_of (store 4 4 0xCAFE) machine (memory x) ≡ left (walked 4 2) (written x) (answer (Value 0) 0 2)
-  pub loads_back : (x : ℕ) → answer_to (load 4 4) (walked 4 2) (written x) ≡ answer (Value 0xCAFE) 8 0
+  pub secret : (x : ℕ) → byte_at (memory x) 0x3003 ≡ Some (x / 1 % 256)
+  pub loads : (x : ℕ) → answer_to (load 4 0) machine (memory x) ≡ answer (Ok 0x1234_5678) 8 2
+  pub stores : (x : ℕ) → result_of (store 4 4 0xCAFE) machine (memory x) ≡ left (walked 4 2) (written x) (answer (Ok 0) 0 2)
+  pub loads_back : (x : ℕ) → answer_to (load 4 4) (walked 4 2) (written x) ≡ answer (Ok 0xCAFE) 8 0
   -- the counterexamples' memories
   pub one_page_lem : (f x : ℕ) → fits 1 1 f ((0, x) ∷ []) ≡ true
   pub four_pages_lem : (x : ℕ) → (fits 1 2 3 ((0, x) ∷ two_leaves) ≡ true) × (fits 1 2 3 ((1023, x) ∷ two_leaves) ≡ true)
   pub root_page_lem : (fits 0 0 1 ((0, 0) ∷ root_leaf) ≡ true) × (fits 0 0 1 ((0, 1) ∷ root_leaf) ≡ true)
   pub own_leaf_lem : (x : ℕ) → fits 0 1 1 ((2048, x) ∷ own_leaf) ≡ true
   -- and their accesses
-  pub unaligned : Both (load 2 0xFFF) (machine_with 4 (user_state 1 (tlb_of (readable 3)))) (four_pages 1023) (answer (Value 0x000) 8 2) (answer (Value 0x100) 8 2)
-  pub privileged : Both (load 4 0) (machine_with 1 supervisor) one_page (answer (Value 0) 8 0) (answer (Value 1) 8 0)
-  pub untabled : Both (load 4 0) (machine_with 1 untranslated) one_page (answer (Value 0) 8 0) (answer (Value 1) 8 0)
-  pub slotless : Both (load 4 0) (machine_with 4 (user_state 1 [])) (four_pages 0) (answer (Value 0) 8 2) (answer (Value 1) 8 2)
-  pub open_page : Both (load 4 0) (machine_with 1 (user_state 1 (tlb_of (readable 0)))) one_page (answer (Value 0) 8 0) (answer (Value 1) 8 0)
-  pub hidden_table : Both (load 4 0x1000) (machine_with 2 (user_state 0 (tlb_of no_entry))) root_page (answer (Exception (PageFault Read false 0x1000)) 0 1) (answer (Value 0) 8 2)
-  pub table_stored : (x : ℕ) → result_of (store 4 4 0x2013) (machine_with 3 (user_state 0 (tlb_of no_entry))) (writable_table x) ≡ left (walked 3 1) (opened_table x) (answer (Value 0) 0 2)
-  pub leaf_used : Both (load 4 0x1000) (walked 3 1) opened_table (answer (Value 0) 8 2) (answer (Value 1) 8 2)
+  pub unaligned : Both (load 2 0xFFF) (machine_with 4 (user_state 1 (tlb_of (readable 3)))) (four_pages 1023) (answer (Ok 0x000) 8 2) (answer (Ok 0x100) 8 2)
+  pub privileged : Both (load 4 0) (machine_with 1 supervisor) one_page (answer (Ok 0) 8 0) (answer (Ok 1) 8 0)
+  pub untabled : Both (load 4 0) (machine_with 1 untranslated) one_page (answer (Ok 0) 8 0) (answer (Ok 1) 8 0)
+  pub slotless : Both (load 4 0) (machine_with 4 (user_state 1 [])) (four_pages 0) (answer (Ok 0) 8 2) (answer (Ok 1) 8 2)
+  pub open_page : Both (load 4 0) (machine_with 1 (user_state 1 (tlb_of (readable 0)))) one_page (answer (Ok 0) 8 0) (answer (Ok 1) 8 0)
+  pub hidden_table : Both (load 4 0x1000) (machine_with 2 (user_state 0 (tlb_of no_entry))) root_page (answer (Err (Exception (PageFault Read false 0x1000))) 0 1) (answer (Ok 0) 8 2)
+  pub table_stored : (x : ℕ) → result_of (store 4 4 0x2013) (machine_with 3 (user_state 0 (tlb_of no_entry))) (writable_table x) ≡ left (walked 3 1) (opened_table x) (answer (Ok 0) 0 2)
+  pub leaf_used : Both (load 4 0x1000) (walked 3 1) opened_table (answer (Ok 0) 8 2) (answer (Ok 1) 8 2)
 
 ruleset reads = (laid_good, laid_read)
 

@@ -5,18 +5,10 @@
 --   layout                                                   == a memory whose words fit, under a TLB with no other valid entry than such of frame f, has that layout
 --   unhidden_tables_lem, unhidden_pages_lem, shut_tables_lem == what a layout says of the three parts of Sealed, where page h is hidden
 --   alike                                                    == two memories that differ in a word of page h
-use Prim.Native.Nat.{ℕ, zero, suc, ◌+◌, ◌*◌, ◌/◌, ◌%◌, ◌^◌, ◌<◌}
-use mathlib.Core.Path.{◌≡◌, refl, sym, ◌∙◌}
-use mathlib.Core.Bool.{Bool, true, false, not, ◌&&◌, ◌||◌}
-use mathlib.Core.List.{List, [], ◌∷◌}
-use mathlib.Core.Logic.{◌⊎◌, inl, inr, ⊎_elim}
-use native.Mathlib.Omega.{arith}
-use lib.Dec.{eqb}
-use lib.ListN.{get_or, replicate}
-use borrow.Author.Tests.{eqb-true, eqb-false, eq-eqb}
+use Rattle.std.proofs.Common.{◌≡◌, ℕ, zero, suc, ◌+◌, ◌*◌, ◌/◌, ◌%◌, ◌^◌, ◌<◌, Bool, true, false, not, ◌&&◌, ◌||◌, eqb, ◌⊎◌, List, [], ◌∷◌, get_or, replicate, Some, Ok, sym, refl, ◌∙◌, inl, inr, ⊎_elim, arith, eq-eqb, eqb-true}
+use borrow.Author.Tests.{eqb-false}
 use Rattle.common.specs.Cases.{absurd_eq, and_left, and_right}
 use Rattle.memory.specs.Memory.{Memory, read_at, word_spots}
-use Rattle.memory.specs.declared.Content.TheVariants.{Value}
 use Rattle.mmu.specs.Check.{page_addr}
 use Rattle.mmu.specs.Opened.{TableByte, level1, level2, Usable, resident, leaf, entry_frame, Opened, opened}
 use Rattle.mmu.specs.Tlb.{no_entry}
@@ -25,7 +17,6 @@ use Rattle.mmu.specs.declared.exception.Access.{Access}
 use Rattle.mmu.specs.declared.exception.Access.TheVariants.{Write}
 use Rattle.mmu.specs.declared.tlb.TlbEntry.{TlbEntry}
 use Rattle.mmu.specs.declared.vm.Vm.{Vm}
-use Rattle.mmu.specs.declared.walk.Walked.TheVariants.{Leaf}
 use Rattle.isolation.specs.Premises.{Alike}
 use Rattle.isolation.specs.Demand3.{TablesShut}
 use Rattle.witness.specs.Laid.{Word, laid}
@@ -79,7 +70,7 @@ module _ (p q t f : ℕ) (l : List Word) (ok : fits q t f l ≡ true) where
   word_fits = each_word Fits (λ i. (rw zero_table (not_asked (eqb (i / 1024) q) (eqb 0 t)), rw zero_leaf (not_asked (eqb (i / 1024) t) (eqb 0 f)))) l (listed l ok)
 
   -- a word of level 1 that the walk follows
-  first_word : (i w : ℕ) → i < 1024 → read_at (laid p l) (word_spots (word_of_table (q * 4096) i)) ≡ Value w → table_ok w ≡ true → w / 4096 ≡ t
+  first_word : (i w : ℕ) → i < 1024 → read_at (laid p l) (word_spots (word_of_table (q * 4096) i)) ≡ Some w → table_ok w ≡ true → w / 4096 ≡ t
   unfolding Fits
   first_word i w h r g =
       let n = q * 1024 + i in
@@ -88,7 +79,7 @@ module _ (p q t f : ℕ) (l : List Word) (ok : fits q t f l ≡ true) where
       eqb-true (w / 4096) t (implied (eqb (n / 1024) q) (table_ok w) (eqb (w / 4096) t) names (eq-eqb (n / 1024) q (omega arith)) g)
 
   -- a good leaf of the table that w names
-  second_word : (w j u : ℕ) → w / 4096 ≡ t → j < 1024 → read_at (laid p l) (word_spots (word_of_table w j)) ≡ Value u → leaf_ok u ≡ true
+  second_word : (w j u : ℕ) → w / 4096 ≡ t → j < 1024 → read_at (laid p l) (word_spots (word_of_table w j)) ≡ Some u → leaf_ok u ≡ true
       → page_addr (u / 4096) / 4096 ≡ f
   unfolding Fits
   second_word w j u e h r g =
@@ -102,7 +93,7 @@ module _ (p q t f : ℕ) (l : List Word) (ok : fits q t f l ≡ true) where
   table_page a (level1 e) = inl (omega arith)
   table_page a (level2 i w h r g e) = inr (e ∙ first_word i w h r g)
 
-  walk_frame : (va : ℕ) → va < 2 ^ 32 → (e : TlbEntry) → (walk_of (laid p l) (q * 4096) va).walked ≡ Leaf e → entry_frame e ≡ f
+  walk_frame : (va : ℕ) → va < 2 ^ 32 → (e : TlbEntry) → (walk_of (laid p l) (q * 4096) va).walked ≡ Ok e → entry_frame e ≡ f
   walk_frame va small e h =
       let k = walk_found (laid p l) (q * 4096) va e h in
       let page = first_word (va / 4194304) k.table (omega arith) k.first k.follows in

@@ -1,11 +1,6 @@
 -- The witness meets the premises of demand 3: its tables lie in pages 0 and 1 and open page 2 alone, and page 3 is hidden. Assumes nothing.
-use Prim.Native.Nat.{ℕ, ◌/◌, ◌%◌, ◌<◌}
-use mathlib.Core.Path.{◌≡◌, refl, sym, ◌∙◌}
-use mathlib.Core.List.{◌∷◌}
-use mathlib.Core.Logic.{◌≢◌}
-use native.Mathlib.Omega.{arith}
+use Rattle.std.proofs.Common.{◌≡◌, ℕ, ◌/◌, ◌%◌, ◌<◌, ◌≢◌, ◌∷◌, Some, sym, refl, ◌∙◌, arith}
 use Rattle.memory.specs.Memory.{byte_at}
-use Rattle.memory.specs.declared.Content.TheVariants.{Value}
 use Rattle.isolation.specs.Premises.{InUserMode, Alike, Sealed}
 use Rattle.isolation.specs.Demand3.{Demand3}
 use Rattle.isolation.proofs.Runs.{demand3}
@@ -26,7 +21,7 @@ in_user_mode = record { user = refl; enabled = refl }
 
 differ : (x y : ℕ) → x < 256 → y < 256 → x ≢ y → byte_at (memory x) 0x3003 ≢ byte_at (memory y) 0x3003
 differ x y h g n e =
-    let same : Value (x / 1 % 256) ≡ Value (y / 1 % 256) = sym (computed.secret x) ∙ e ∙ computed.secret y in
+    let same : Some (x / 1 % 256) ≡ Some (y / 1 % 256) = sym (computed.secret x) ∙ e ∙ computed.secret y in
     let byte : x / 1 % 256 ≡ y / 1 % 256 = cc in
     n (omega arith)
 

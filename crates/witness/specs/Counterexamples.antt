@@ -6,7 +6,7 @@
 --   Needed             == the demand with its premises by name, and a counterexample without each
 --
 -- In each counterexample one word of physical memory is 0 in the first run and 1 in the second. What is hidden is a whole page.
-use Rattle.std.specs.Prelude.{ℕ, ◌≡◌, Bool, true, false, List, [], ◌∷◌, ◌≢◌, replicate}
+use Rattle.std.specs.Prelude.{ℕ, ◌≡◌, Bool, true, false, List, [], ◌∷◌, ◌≢◌, replicate, Ok, Err}
 use Rattle.memory.specs.Memory.{Memory}
 use Rattle.mmu.specs.Opened.{TableByte, Opened}
 use Rattle.mmu.specs.Tlb.{no_entry}
@@ -17,7 +17,7 @@ use Rattle.mmu.specs.declared.tlb.TlbEntry.{TlbEntry}
 use Rattle.privilege.specs.State.{no_region, with_user, with_regions, with_vm}
 use Rattle.privilege.specs.declared.region.Region.{Region}
 use Rattle.privilege.specs.declared.state.SystemState.{SystemState}
-use Rattle.machine.specs.declared.access.Outcome.TheVariants.{Value, Exception}
+use Rattle.machine.specs.declared.access.Fault.TheVariants.{Exception}
 use Rattle.machine.specs.declared.state.Machine.{Machine}
 use Rattle.isolation.specs.Premises.{Op, AllAligned, Sixteen, Alike}
 use Rattle.isolation.specs.Demand3.{Answer, ran_ops, Isolated, TablesShut}
@@ -106,32 +106,32 @@ pub record Needed : Type 0 where
   -- a load over two pages: the fill of the second takes the slot of the first, whose byte is then looked for in page 0
   pub unaligned :
       Counterexample alignment (on_page 0) (load 2 0xFFF ∷ []) (machine_with 4 (user_state 1 (tlb_of (readable 3)))) (four_pages 1023 0) (four_pages 1023 1)
-      (answer (Value 0x000) 8 2 ∷ []) (answer (Value 0x100) 8 2 ∷ [])
+      (answer (Ok 0x000) 8 2 ∷ []) (answer (Ok 0x100) 8 2 ∷ [])
   -- a supervisor reads what it likes
   pub privileged :
       Counterexample user_mode (on_page 0) (load 4 0 ∷ []) (machine_with 1 supervisor) (one_page 0) (one_page 1)
-      (answer (Value 0) 8 0 ∷ []) (answer (Value 1) 8 0 ∷ [])
+      (answer (Ok 0) 8 0 ∷ []) (answer (Ok 1) 8 0 ∷ [])
   -- without translation a user reads what the regions grant, whatever the tables say
   pub untabled :
       Counterexample translation (on_page 0) (load 4 0 ∷ []) (machine_with 1 untranslated) (one_page 0) (one_page 1)
-      (answer (Value 0) 8 0 ∷ []) (answer (Value 1) 8 0 ∷ [])
+      (answer (Ok 0) 8 0 ∷ []) (answer (Ok 1) 8 0 ∷ [])
   -- a TLB without slots keeps no fill, so that every byte is looked for in page 0
   pub slotless :
       Counterexample slots (on_page 0) (load 4 0 ∷ []) (machine_with 4 (user_state 1 [])) (four_pages 0 0) (four_pages 0 1)
-      (answer (Value 0) 8 2 ∷ []) (answer (Value 1) 8 2 ∷ [])
+      (answer (Ok 0) 8 2 ∷ []) (answer (Ok 1) 8 2 ∷ [])
   -- a byte that differs and is not hidden may be read: here page 2 alone is hidden
   pub unlike :
       Counterexample likeness (on_page 2) (load 4 0 ∷ []) (machine_with 1 (user_state 1 (tlb_of (readable 0)))) (one_page 0) (one_page 1)
-      (answer (Value 0) 8 0 ∷ []) (answer (Value 1) 8 0 ∷ [])
+      (answer (Ok 0) 8 0 ∷ []) (answer (Ok 1) 8 0 ∷ [])
   -- a hidden table: where its word 0 names no table there is a page fault, where it names one a value
   pub hidden_table :
       Counterexample unhidden_tables (on_page 0) (load 4 0x1000 ∷ []) (machine_with 2 (user_state 0 (tlb_of no_entry))) (root_page 0) (root_page 1)
-      (answer (Exception (PageFault Read false 0x1000)) 0 1 ∷ []) (answer (Value 0) 8 2 ∷ [])
+      (answer (Err (Exception (PageFault Read false 0x1000))) 0 1 ∷ []) (answer (Ok 0) 8 2 ∷ [])
   -- a hidden byte in an open page is read; PTBR's page is outside the map
   pub hidden_open :
       Counterexample unhidden_pages (on_page 0) (load 4 0 ∷ []) (machine_with 1 (user_state 1 (tlb_of (readable 0)))) (one_page 0) (one_page 1)
-      (answer (Value 0) 8 0 ∷ []) (answer (Value 1) 8 0 ∷ [])
+      (answer (Ok 0) 8 0 ∷ []) (answer (Ok 1) 8 0 ∷ [])
   -- a user who can write the level-2 table puts a leaf of the hidden page into it, and reads that page
   pub writable_table :
       Counterexample shut_tables (on_page 2) (store 4 4 0x2013 ∷ load 4 0x1000 ∷ []) (machine_with 3 (user_state 0 (tlb_of no_entry))) (writable_table 0) (writable_table 1)
-      (answer (Value 0) 0 2 ∷ answer (Value 0) 8 2 ∷ []) (answer (Value 0) 0 2 ∷ answer (Value 1) 8 2 ∷ [])
+      (answer (Ok 0) 0 2 ∷ answer (Ok 0) 8 2 ∷ []) (answer (Ok 0) 0 2 ∷ answer (Ok 1) 8 2 ∷ [])

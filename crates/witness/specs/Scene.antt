@@ -6,7 +6,7 @@
 --   machine_with p s    == a new machine over p pages, with a miss penalty of 8 and the privilege state s
 --   load, store         == an access of a run
 --   answer o n r        == its answer: outcome, stall, walk reads
-use Rattle.std.specs.Prelude.{ℕ, ◌*◌, ◌/◌, Bool, true, List, ◌∷◌, eqb, replicate}
+use Rattle.std.specs.Prelude.{ℕ, ◌*◌, ◌/◌, Bool, true, List, ◌∷◌, eqb, replicate, Result}
 use Rattle.mmu.specs.Tlb.{no_entry}
 use Rattle.mmu.specs.declared.exception.Access.TheVariants.{Read, Write}
 use Rattle.mmu.specs.declared.tlb.TlbEntry.{TlbEntry}
@@ -14,7 +14,7 @@ use Rattle.mmu.specs.declared.vm.Vm.{Vm}
 use Rattle.privilege.specs.State.{new_state, with_user, with_vm}
 use Rattle.privilege.specs.declared.state.SystemState.{SystemState}
 use Rattle.machine.specs.State.{new_machine, with_sys}
-use Rattle.machine.specs.declared.access.Outcome.{Outcome}
+use Rattle.machine.specs.declared.access.Fault.{Fault}
 use Rattle.machine.specs.declared.state.Machine.{Machine}
 use Rattle.isolation.specs.Premises.{Op}
 use Rattle.isolation.specs.Demand3.{Answer}
@@ -40,5 +40,5 @@ load n a = record { kind = Read; addr = a; size = n; value = 0 }
 abbrev pub store : ℕ → ℕ → ℕ → Op
 store n a v = record { kind = Write; addr = a; size = n; value = v }
 
-abbrev pub answer : Outcome → ℕ → ℕ → Answer
+abbrev pub answer : Result ℕ Fault → ℕ → ℕ → Answer
 answer outcome stall reads = record { outcome = outcome; stall = stall; reads = reads }

@@ -4,10 +4,9 @@
 --   machine      == a user's machine over them, its TLB empty
 --   hidden       == every byte of the fourth page
 --   Witness      == the premises are met whatever the hidden byte is; the memories differ in it; the user's accesses are allowed
-use Rattle.std.specs.Prelude.{ℕ, ◌<◌, ◌≡◌, Bool, List, [], ◌∷◌, ◌≢◌}
+use Rattle.std.specs.Prelude.{ℕ, ◌<◌, ◌≡◌, Bool, List, [], ◌∷◌, ◌≢◌, Ok}
 use Rattle.memory.specs.Memory.{Memory, byte_at}
 use Rattle.mmu.specs.Tlb.{no_entry}
-use Rattle.machine.specs.declared.access.Outcome.TheVariants.{Value}
 use Rattle.machine.specs.declared.state.Machine.{Machine}
 use Rattle.isolation.specs.Premises.{Op, AllAligned, InUserMode, Sixteen, Alike, Sealed}
 use Rattle.isolation.specs.Demand3.{ran_ops, Isolated}
@@ -35,7 +34,7 @@ pub record Witness : Type 0 where
   -- the memories are two
   pub differ : (x y : ℕ) → x < 256 → y < 256 → x ≢ y → byte_at (memory x) 0x3003 ≢ byte_at (memory y) 0x3003
   -- a load walks, misses and has its value; a store writes, and what it wrote is read
-  pub loads : (x : ℕ) → (ran_ops (load 4 0 ∷ []) machine (memory x)).answers ≡ answer (Value 0x1234_5678) 8 2 ∷ []
-  pub stores : (x : ℕ) → (ran_ops (store 4 4 0xCAFE ∷ load 4 4 ∷ []) machine (memory x)).answers ≡ answer (Value 0) 0 2 ∷ answer (Value 0xCAFE) 8 0 ∷ []
+  pub loads : (x : ℕ) → (ran_ops (load 4 0 ∷ []) machine (memory x)).answers ≡ answer (Ok 0x1234_5678) 8 2 ∷ []
+  pub stores : (x : ℕ) → (ran_ops (store 4 4 0xCAFE ∷ load 4 4 ∷ []) machine (memory x)).answers ≡ answer (Ok 0) 0 2 ∷ answer (Ok 0xCAFE) 8 0 ∷ []
   -- so the demand speaks of these machines, whatever the accesses
   pub isolated : (os : List Op) (x y : ℕ) → AllAligned os → Isolated hidden (memory x) (memory y) (ran_ops os machine (memory x)) (ran_ops os machine (memory y))

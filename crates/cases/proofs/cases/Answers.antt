@@ -1,9 +1,5 @@
 -- `cases::cases` holds: what a row leaves open stays a variable, and the rest is computed from the parts' definitions. Assumes nothing.
-use Prim.Native.Nat.{ℕ}
-use mathlib.Core.Path.{◌≡◌, refl, ap}
-use mathlib.Core.List.{List}
-use native.Mathlib.Omega.{arith}
-use lib.Seq.{get_or-set_same}
+use Rattle.std.proofs.Common.{◌≡◌, ℕ, List, Some, Ok, Err, refl, ap, arith, get_or-set_same}
 use Rattle.cache.specs.Bank.{drop_lines, swept}
 use Rattle.cache.specs.Cache.{external_written}
 use Rattle.common.specs.Bits.{bit_set}
@@ -15,40 +11,38 @@ use Rattle.mmu.specs.Vm.Laws.{flushed_is}
 use Rattle.mmu.specs.Walk.{table_ok, leaf_ok, leaf_entry, answered, walk_leaf, walk_table, walk_of}
 use Rattle.mmu.specs.Walk.Laws.{walk_two}
 use Rattle.mmu.specs.declared.vm.Vm.{Vm}
-use Rattle.mmu.specs.declared.walk.Walked.TheVariants.{Leaf, Missing}
-use Rattle.memory.specs.declared.Content.TheVariants as content
+use Rattle.mmu.specs.declared.walk.WalkFault.TheVariants.{Missing}
 use Rattle.privilege.specs.Corners.{read_back}
 use Rattle.privilege.specs.Region.{field_of, with_field}
 use Rattle.privilege.specs.Registers.{region_field, sr_read, sr_written, vm_ptbr}
 use Rattle.privilege.specs.State.{no_region, status_of}
 use Rattle.privilege.specs.Trap.{returned}
 use Rattle.privilege.specs.declared.region.Region.{Region}
-use Rattle.privilege.specs.declared.registers.SrRead.TheVariants.{Value}
 use Rattle.privilege.specs.declared.state.SystemState.{SystemState}
 use Rattle.cases.specs.Cases.{Cases, Eight, Leads, resident}
 use Rattle.cases.proofs.Regions.{p6_allowed, p6_denied, p7_allowed, p7_denied, p7_fetch}
 use Rattle.cases.proofs.cases.Goals as goal
 
 -- region 7 has its flags back, masked
-flags_back : (s : SystemState) (reg : List ℕ) → Eight s → read_back s reg 0x2E 0xFF ≡ Value 7
+flags_back : (s : SystemState) (reg : List ℕ) → Eight s → read_back s reg 0x2E 0xFF ≡ Ok 7
 unfolding sr_read sr_written region_field field_of with_field
-flags_back s reg h = ap (λ (g : Region). Value g.flags) (get_or-set_same s.regions 7 _ no_region (omega arith))
+flags_back s reg h = ap (λ (g : Region). Ok g.flags) (get_or-set_same s.regions 7 _ no_region (omega arith))
 
 module _ (m : Memory) (ptbr va : ℕ) where
-  write_alone : Leads m ptbr va 0x3005 → walk_of m ptbr va ≡ answered Missing 2
+  write_alone : Leads m ptbr va 0x3005 → walk_of m ptbr va ≡ answered (Err Missing) 2
   unfolding walk_leaf leaf_ok bit_set
-  write_alone l = walk_two m ptbr va l.table l.first (content.Value 0x3005) l.followed l.second
+  write_alone l = walk_two m ptbr va l.table l.first (Some 0x3005) l.followed l.second
 
-  readable : Leads m ptbr va 0x3013 → walk_of m ptbr va ≡ answered (Leaf (resident va 3 0x12)) 2
+  readable : Leads m ptbr va 0x3013 → walk_of m ptbr va ≡ answered (Ok (resident va 3 0x12)) 2
   unfolding walk_leaf leaf_ok leaf_entry bit_set
-  readable l = walk_two m ptbr va l.table l.first (content.Value 0x3013) l.followed l.second
+  readable l = walk_two m ptbr va l.table l.first (Some 0x3013) l.followed l.second
 
 table : Cases
 unfolding bit_set refusal_number lowest_from drop_lines swept external_written cause_of table_ok walk_table walk_of region_field sr_read sr_written status_of returned
 table =
     record {
       p1 = λ reg. refl;
-      p2 = λ s reg. ap (λ (vm : Vm). Value vm.ptbr) (flushed_is (vm_ptbr s.vm 0x1000));
+      p2 = λ s reg. ap (λ (vm : Vm). Ok vm.ptbr) (flushed_is (vm_ptbr s.vm 0x1000));
       p3 = (λ s reg. (refl, λ v. refl), flags_back, λ s reg. (refl, λ v. refl), λ s reg. (refl, λ v. refl), refl);
       p4 = refl;
       p5 = λ addr. refl;

@@ -6,7 +6,7 @@
 --   listing_good       == a good script's listing is that of its events' run
 --   listing_whole      == every script's listing fits into `LISTING_MAX` bytes
 --   run_none, run_next == a run of no event, and of one event more: the event's step, and the run on what that left
-use Rattle.std.specs.Prelude.{◌≡◌, ℕ, zero, suc, ◌+◌, ◌≤◌, List, [], ◌∷◌, ◌++◌, length, refl}
+use Rattle.std.specs.Prelude.{◌≡◌, ℕ, zero, suc, ◌+◌, ◌≤◌, List, [], ◌∷◌, ◌++◌, length, refl, Result, Ok, Err}
 use Rattle.std.proofs.Common.{ap, ◌∙◌}
 use Rattle.common.specs.Refusal.{refusal_number}
 use Rattle.listing.specs.Listing.{listing_text}
@@ -18,8 +18,7 @@ use Rattle.script.specs.Header.{script_of}
 use Rattle.script.specs.Header.Laws.{good_sound}
 use Rattle.script.specs.declared.Event.{Event}
 use Rattle.script.specs.declared.header.Header.{Header}
-use Rattle.script.specs.declared.header.Script.{Script}
-use Rattle.script.specs.declared.header.Script.TheVariants.{Good, Refused}
+use Rattle.common.specs.declared.Refusal.{Refusal}
 use Rattle.machine.specs.Event.{step_of}
 use Rattle.machine.specs.Run.{after, run_over, run_from, script_events, first_machine, first_memory, script_run, listed, listing_of}
 use Rattle.machine.specs.declared.state.Machine.{Machine}
@@ -60,15 +59,15 @@ pub run_next : (n : ℕ) (s : List ℕ) (at : ℕ) (M : Machine) (m : Memory)
     → run_from (suc n) s at M m ≡ after (step_of M m (event_at s at)).stepped.line (run_from n s (at + 12) (step_of M m (event_at s at)).stepped.machine (step_of M m (event_at s at)).memory)
 run_next n s at M m = ap (λ (es : List Event). run_over es M m) (events_next s at n) ∙ over_next (event_at s at) (events_from n s (at + 12)) M m
 
-listed_whole : (s : List ℕ) (c : Script) → script_of s ≡ c → length (listed s c) ≤ 131072
+listed_whole : (s : List ℕ) (c : Result Header Refusal) → script_of s ≡ c → length (listed s c) ≤ 131072
 unfolding listed script_run
-listed_whole s (Good h) e = listing_fits (script_run s h).lines (rw run_lines (good_sound s h e).few_events)
-listed_whole s (Refused r) e = refused_fits (refusal_number r)
+listed_whole s (Ok h) e = listing_fits (script_run s h).lines (rw run_lines (good_sound s h e).few_events)
+listed_whole s (Err r) e = refused_fits (refusal_number r)
 
 pub listing_whole : (s : List ℕ) → length (listing_of s) ≤ 131072
 unfolding listing_of
 listing_whole s = listed_whole s (script_of s) refl
 
-pub listing_good : (s : List ℕ) (h : Header) → script_of s ≡ Good h → listing_of s ≡ listing_text (run_over (script_events s h) (first_machine h) (first_memory s h)).lines
+pub listing_good : (s : List ℕ) (h : Header) → script_of s ≡ Ok h → listing_of s ≡ listing_text (run_over (script_events s h) (first_machine h) (first_memory s h)).lines
 unfolding listing_of listed script_run
 listing_good s h g = rw g

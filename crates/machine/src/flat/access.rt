@@ -1,37 +1,34 @@
 // The combined access where the machine's words stand: check; the cache once, at the first byte's physical address; memory.
-ghost use Rattle.std.specs.Prelude.{◌≡◌, true, length, if◌then◌else◌};
+ghost use Rattle.std.specs.Prelude.{◌≡◌, true, length};
 ghost use Rattle.memory.specs.Gate.{map_good};
 ghost use Rattle.memory.specs.Memory.{lent};
 ghost use Rattle.mmu.specs.declared.exception.Access.TheVariants.{Read, Write, Fetch};
-ghost use Rattle.privilege.specs.Transfer.{read_of};
-ghost use Rattle.machine.specs.Access.{is_read, read_outcome, write_outcome};
+ghost use Rattle.machine.specs.Access.{is_read};
 ghost use Rattle.machine.specs.Event.{access_kind, stored_by};
-ghost use Rattle.machine.specs.Flat.{state_words, no_answer, answer_of, Asks, Permits, ReadsPermitted, WritesPermitted, Accesses, AccessesAny, Grants, ReadsGranted, WritesGranted};
+ghost use Rattle.machine.specs.Flat.{no_answer, answer_of, Asks, Permits, ReadsPermitted, WritesPermitted, Accesses, AccessesAny, Grants, ReadsGranted, WritesGranted};
 
-use crate::access::Outcome;
-use crate::flat::state::{CACHE, CACHE_END, STATE_WORDS, SYSTEM};
+use crate::access::Fault;
+use crate::flat::state::{CACHE, CACHE_END, STATE_WORDS, SYSTEM, SYSTEM_END};
 use cache::flat as cache_words;
 use common::Refusal;
 use memory::span::put_word;
-use memory::{Content, good_map, read_word};
+use memory::{good_map, read_word};
 use mmu::exception::Access;
-use privilege::check::Permission;
 use privilege::flat as system_words;
 use privilege::flat::access::{Grant, Permit};
 use privilege::rows::{read_rows, write_rows};
 use privilege::state::PAGE_SIZE;
-use privilege::transfer::{DataRead, DataWritten};
 use script::Event;
 
 // What an access answers.
 #[derive(Clone, Copy)]
 pub struct Answer {
-    pub outcome: Outcome,
+    pub outcome: Result<u32, Fault>,
     pub stall: u32,
     pub reads: u32,
 }
 
-fn answer_of(outcome: Outcome, stall: u32, reads: u32) -> Answer
+fn answer_of(outcome: Result<u32, Fault>, stall: u32, reads: u32) -> Answer
     ensures { result ≡ answer_of outcome stall reads }
 {
     Answer {
@@ -45,59 +42,48 @@ fn answer_of(outcome: Outcome, stall: u32, reads: u32) -> Answer
 fn no_answer() -> Answer
     ensures { result ≡ no_answer }
 {
-    answer_of(Outcome::Refused(Refusal::Map), 0, 0)
-}
-
-fn read_outcome(read: DataRead) -> Outcome
-    ensures { result ≡ read_outcome read }
-{
-    match read {
-        DataRead::Value(v) => Outcome::Value(v),
-        DataRead::BusError => Outcome::BusError,
-        DataRead::Refused(r) => Outcome::Refused(r),
-    }
-}
-
-fn write_outcome(written: DataWritten) -> Outcome
-    ensures { result ≡ write_outcome written }
-{
-    match written {
-        DataWritten::Done => Outcome::Value(0),
-        DataWritten::BusError => Outcome::BusError,
-        DataWritten::Refused(r) => Outcome::Refused(r),
-    }
+    answer_of(Err(Fault::Refused(Refusal::Map)), 0, 0)
 }
 
 // The cache, asked at an address, and what that costs. A store costs nothing.
-fn ask(state: &mut [u32], access: Access, pa: u32) -> u32
-    requires { length state.old ≡ state_words }
+fn ask(state: &mut [u32; STATE_WORDS], access: Access, pa: u32) -> u32
     ensures { Asks state.old state.new access pa result }
 {
-    let c = CACHE;
-    let e = CACHE_END;
+    let words = &mut state[CACHE..CACHE_END];
     match access {
-        Access::Read => cache_words::load(&mut state[c..e], pa),
-        Access::Fetch => cache_words::fetch(&mut state[c..e], pa),
+        Access::Read => cache_words::load(words, pa),
+        Access::Fetch => cache_words::fetch(words, pa),
         Access::Write => {
-            cache_words::store(&mut state[c..e], pa);
+            cache_words::store(words, pa);
             0
         }
     }
 }
 
 // The check of an access, by the privilege state's words.
-fn check(state: &mut [u32], mem: &[u8], base: u32, addr: u32, size: u32, access: Access) -> Permit
-    requires { length state.old ≡ state_words }
+fn check(
+    state: &mut [u32; STATE_WORDS],
+    mem: &[u8],
+    base: u32,
+    addr: u32,
+    size: u32,
+    access: Access,
+) -> Permit
     ensures { Permits state.old state.new (lent base mem.now) addr size access result }
 {
-    let s = SYSTEM;
-    let c = CACHE;
-    system_words::access::check_access(&mut state[s..c], mem, base, addr, size, access)
+    system_words::access::check_access(
+        &mut state[SYSTEM..SYSTEM_END],
+        mem,
+        base,
+        addr,
+        size,
+        access,
+    )
 }
 
 // A load or fetch after its check.
 fn read_permitted(
-    state: &mut [u32],
+    state: &mut [u32; STATE_WORDS],
     mem: &[u8],
     base: u32,
     addr: u32,
@@ -105,24 +91,22 @@ fn read_permitted(
     access: Access,
     permit: Permit,
 ) -> Answer
-    requires { (length state.old ≡ state_words) × (is_read access ≡ true) }
+    requires { is_read access ≡ true }
     ensures { ReadsPermitted state.old state.new (lent base mem.now) addr size access permit result }
 {
-    let permission = permit.permission;
-    match permission {
-        Permission::Allowed => {
+    match permit.permission {
+        Ok(()) => {
             let stall = ask(state, access, permit.pa);
             let data = read_rows(mem, base, addr, size, permit.pa, permit.pb);
-            answer_of(read_outcome(data), stall, permit.reads)
+            answer_of(data.map_err(Fault::from), stall, permit.reads)
         }
-        Permission::Denied(e) => answer_of(Outcome::Exception(e), 0, permit.reads),
-        Permission::Refused(r) => answer_of(Outcome::Refused(r), 0, 0),
+        Err(error) => answer_of(Err(Fault::from(error)), 0, permit.reads),
     }
 }
 
-// A store after its check.
+// A store after its check. Memory is lent to it to be written, and to a load to be read: so the two are no instances of one function.
 fn write_permitted(
-    state: &mut [u32],
+    state: &mut [u32; STATE_WORDS],
     mem: &mut [u8],
     base: u32,
     addr: u32,
@@ -130,39 +114,40 @@ fn write_permitted(
     value: u32,
     permit: Permit,
 ) -> Answer
-    requires { length state.old ≡ state_words }
     ensures { WritesPermitted state.old state.new (lent base mem.old) addr size value permit result mem.new }
 {
-    let permission = permit.permission;
-    match permission {
-        Permission::Allowed => {
+    match permit.permission {
+        Ok(()) => {
             let stall = ask(state, Access::Write, permit.pa);
             let data = write_rows(mem, base, addr, size, permit.pa, permit.pb, value);
-            answer_of(write_outcome(data), stall, permit.reads)
+            answer_of(data.and(Ok(0)).map_err(Fault::from), stall, permit.reads)
         }
-        Permission::Denied(e) => answer_of(Outcome::Exception(e), 0, permit.reads),
-        Permission::Refused(r) => answer_of(Outcome::Refused(r), 0, 0),
+        Err(error) => answer_of(Err(Fault::from(error)), 0, permit.reads),
     }
+}
+
+// A load or fetch.
+fn read(state: &mut [u32], mem: &[u8], base: u32, addr: u32, size: u32, access: Access) -> Answer
+    requires { is_read access ≡ true }
+    ensures { AccessesAny state.old state.new access base mem.now addr size 0 result mem.now }
+{
+    let Some(state) = state.as_mut_array::<STATE_WORDS>() else {
+        return no_answer();
+    };
+    let permit = check(state, mem, base, addr, size, access);
+    read_permitted(state, mem, base, addr, size, access, permit)
 }
 
 pub fn load(state: &mut [u32], mem: &[u8], base: u32, addr: u32, size: u32) -> Answer
     ensures { AccessesAny state.old state.new Read base mem.now addr size 0 result mem.now }
 {
-    if state.len() != STATE_WORDS {
-        return no_answer();
-    }
-    let permit = check(state, mem, base, addr, size, Access::Read);
-    read_permitted(state, mem, base, addr, size, Access::Read, permit)
+    read(state, mem, base, addr, size, Access::Read)
 }
 
 pub fn fetch(state: &mut [u32], mem: &[u8], base: u32, addr: u32, size: u32) -> Answer
     ensures { AccessesAny state.old state.new Fetch base mem.now addr size 0 result mem.now }
 {
-    if state.len() != STATE_WORDS {
-        return no_answer();
-    }
-    let permit = check(state, mem, base, addr, size, Access::Fetch);
-    read_permitted(state, mem, base, addr, size, Access::Fetch, permit)
+    read(state, mem, base, addr, size, Access::Fetch)
 }
 
 // The low `size` bytes of `value` go to memory, as many as the map has.
@@ -176,86 +161,74 @@ pub fn store(
 ) -> Answer
     ensures { AccessesAny state.old state.new Write base mem.old addr size value result mem.new }
 {
-    if state.len() != STATE_WORDS {
+    let Some(state) = state.as_mut_array::<STATE_WORDS>() else {
         return no_answer();
-    }
+    };
     let permit = check(state, mem, base, addr, size, Access::Write);
     write_permitted(state, mem, base, addr, size, value, permit)
 }
 
 // ---- a word that is granted at once
 
-// A word's content, as an access answers it.
-fn word_outcome(content: Content) -> Outcome
-    ensures { result ≡ read_outcome (read_of content) }
-{
-    match content {
-        Content::Value(v) => Outcome::Value(v),
-        Content::Outside => Outcome::BusError,
-    }
-}
-
-// A store's answer: done where all bytes were written.
-fn stored_outcome(all: bool) -> Outcome
-    ensures { result ≡ write_outcome (if all then DataWritten.Done else DataWritten.BusError) }
-{
-    if all {
-        Outcome::Value(0)
-    } else {
-        Outcome::BusError
-    }
-}
-
 // The check of a word inside its page, over a good map, by the privilege state's words. Other accesses are not asked for; where the page ends is tested before
 // the map, so that one over two pages is soon on its own way.
 fn grant_word(
-    state: &mut [u32],
+    state: &mut [u32; STATE_WORDS],
     mem: &[u8],
     base: u32,
     addr: u32,
     size: u8,
     access: Access,
-) -> Grant
-    requires { length state.old ≡ state_words }
+) -> Option<Grant>
     ensures { Grants state.old state.new (lent base mem.now) addr size access result }
 {
-    if size == 4 && addr % PAGE_SIZE <= PAGE_SIZE - 4 {
-        if good_map(mem, base) {
-            let s = SYSTEM;
-            let c = CACHE;
-            return system_words::access::grant_word(&mut state[s..c], mem, base, addr, access);
-        }
+    if size == 4 && addr % PAGE_SIZE <= PAGE_SIZE - 4 && good_map(mem, base) {
+        return system_words::access::grant_word(
+            &mut state[SYSTEM..SYSTEM_END],
+            mem,
+            base,
+            addr,
+            access,
+        );
     }
-    Grant {
-        granted: false,
-        pa: 0,
-        reads: 0,
-    }
+    None
 }
 
 // A granted word, loaded or fetched: the cache, then memory.
-fn read_granted(state: &mut [u32], mem: &[u8], base: u32, access: Access, grant: Grant) -> Answer
-    requires { (length state.old ≡ state_words) × (is_read access ≡ true) × (map_good (lent base mem.now) ≡ true) }
+fn read_granted(
+    state: &mut [u32; STATE_WORDS],
+    mem: &[u8],
+    base: u32,
+    access: Access,
+    grant: Grant,
+) -> Answer
+    requires { (is_read access ≡ true) × (map_good (lent base mem.now) ≡ true) }
     ensures { ReadsGranted state.old state.new (lent base mem.now) access grant result }
 {
     let stall = ask(state, access, grant.pa);
     let content = read_word(mem, base, grant.pa);
-    answer_of(word_outcome(content), stall, grant.reads)
+    answer_of(content.ok_or(Fault::BusError), stall, grant.reads)
 }
 
 // A granted word, stored.
-fn write_granted(state: &mut [u32], mem: &mut [u8], base: u32, value: u32, grant: Grant) -> Answer
-    requires { (length state.old ≡ state_words) × (map_good (lent base mem.old) ≡ true) }
+fn write_granted(
+    state: &mut [u32; STATE_WORDS],
+    mem: &mut [u8],
+    base: u32,
+    value: u32,
+    grant: Grant,
+) -> Answer
+    requires { map_good (lent base mem.old) ≡ true }
     ensures { WritesGranted state.old state.new (lent base mem.old) value grant result mem.new }
 {
     let stall = ask(state, Access::Write, grant.pa);
     let all = put_word(mem, base, grant.pa, value);
-    answer_of(stored_outcome(all), stall, grant.reads)
+    answer_of(all.then_some(0).ok_or(Fault::BusError), stall, grant.reads)
 }
 
 // ---- an event
 
-// The access of kinds 0 to 2.
+// The access of kinds 0 to 2: every byte is a kind, so nothing is refused here.
 fn access_of(kind: u8) -> Access
     ensures { result ≡ access_kind kind }
 {
@@ -267,8 +240,7 @@ fn access_of(kind: u8) -> Access
 }
 
 // Any access: the check has one call, whatever the kind is.
-fn access_any(state: &mut [u32], mem: &mut [u8], base: u32, e: Event) -> Answer
-    requires { length state.old ≡ state_words }
+fn access_any(state: &mut [u32; STATE_WORDS], mem: &mut [u8], base: u32, e: Event) -> Answer
     ensures { (length state.new ≡ length state.old) × Accesses state.old state.new (access_kind e.kind) (lent base mem.old) e.a e.size (stored_by e) result mem.new }
 {
     let access = access_of(e.kind);
@@ -282,13 +254,16 @@ fn access_any(state: &mut [u32], mem: &mut [u8], base: u32, e: Event) -> Answer
 
 // Kinds 0 to 2. A word that is granted at once is frequent: its answer never meets those of the other ways, which the compiler would keep in memory. So
 // these have one call too: it makes them a part of this function.
-pub(crate) fn access_event(state: &mut [u32], mem: &mut [u8], base: u32, e: Event) -> Answer
-    requires { length state.old ≡ state_words }
+pub(crate) fn access_event(
+    state: &mut [u32; STATE_WORDS],
+    mem: &mut [u8],
+    base: u32,
+    e: Event,
+) -> Answer
     ensures { (length state.new ≡ length state.old) × Accesses state.old state.new (access_kind e.kind) (lent base mem.old) e.a e.size (stored_by e) result mem.new }
 {
     let access = access_of(e.kind);
-    let grant = grant_word(state, mem, base, e.a, e.size, access);
-    if grant.granted {
+    if let Some(grant) = grant_word(state, mem, base, e.a, e.size, access) {
         if e.kind == 1 {
             return write_granted(state, mem, base, e.b, grant);
         }

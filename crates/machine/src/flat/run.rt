@@ -34,14 +34,11 @@ pub fn run(
         return Listed { place: at, totals };
     }
     let mut place = at;
-    let mut k: u32 = 0;
     let mut from = first as usize;
-    while k < count {
-        let event = event_of(script, from);
-        let line = step(state, mem, base, event);
+    for k in 0..count {
+        let line = step(state, mem, base, event_of(script, from));
         totals = totals.add(line);
         place = put_line(out, place, k, line);
-        k += 1;
         from += EVENT_SIZE;
     }
     Listed {

@@ -1,5 +1,5 @@
 // The machine's words: those of the privilege state and R0 to R31, those of the cache, and three of the controller.
-ghost use Rattle.std.specs.Prelude.{◌≡◌, ◌%◌, ◌^◌, length};
+ghost use Rattle.std.specs.Prelude.{◌≡◌, ◌%◌, ◌^◌};
 ghost use Rattle.layout.specs.Words.{Over, Reads};
 ghost use Rattle.machine.specs.Flat.{state_words, machine_at, Left};
 ghost use Rattle.machine.specs.State.{new_machine, with_irqc};
@@ -29,12 +29,11 @@ const SOURCE_LEVEL: usize = 658;
 fn half(word: u32) -> u16
     ensures { result ≡ word % 2 ^ 16 }
 {
-    (word % 0x1_0000) as u16
+    (word & 0xffff) as u16
 }
 
 // The controller, by value: it is three numbers.
-pub(crate) fn controller(state: &[u32]) -> IrqController
-    requires { length state.now ≡ state_words }
+pub(crate) fn controller(state: &[u32; STATE_WORDS]) -> IrqController
     ensures { result ≡ (machine_at state.now).irqc }
 {
     IrqController {
@@ -44,8 +43,7 @@ pub(crate) fn controller(state: &[u32]) -> IrqController
     }
 }
 
-pub(crate) fn put_controller(state: &mut [u32], c: IrqController)
-    requires { length state.old ≡ state_words }
+pub(crate) fn put_controller(state: &mut [u32; STATE_WORDS], c: IrqController)
     ensures { Left state.old state.new (with_irqc (machine_at state.old) c) }
 {
     state[PENDING] = c.pending as u32;
@@ -57,35 +55,39 @@ pub(crate) fn put_controller(state: &mut [u32], c: IrqController)
 pub fn pack(state: &mut [u32], m: Machine)
     ensures { Over state_words state.old state.new (tt {0}) (tt {0}) (machine_at state.new ≡ m) }
 {
-    if state.len() != STATE_WORDS {
+    let Some(state) = state.as_mut_array::<STATE_WORDS>() else {
         return;
-    }
-    let sys = m.sys;
-    let reg = m.reg;
-    let cache = m.cache;
-    let irqc = m.irqc;
-    let s = SYSTEM;
-    let c = CACHE;
-    let e = CACHE_END;
-    system_words::state::pack(&mut state[s..c], sys, reg);
-    cache_words::pack(&mut state[c..e], cache);
-    put_controller(state, irqc);
+    };
+    pack_words(state, m);
+}
+
+// The same over as many words as a machine has.
+fn pack_words(state: &mut [u32; STATE_WORDS], m: Machine)
+    ensures { Left state.old state.new m }
+{
+    system_words::state::pack(&mut state[SYSTEM..SYSTEM_END], m.sys, m.reg);
+    cache_words::pack(&mut state[CACHE..CACHE_END], m.cache);
+    put_controller(state, m.irqc);
 }
 
 // The machine of its words.
 pub fn unpack(state: &[u32]) -> Machine
     ensures { Reads state_words state.now result (new_machine 0 0 0) (machine_at state.now) }
 {
-    if state.len() != STATE_WORDS {
+    let Some(state) = state.as_array::<STATE_WORDS>() else {
         return Machine::new(0, 0, 0);
-    }
-    let s = SYSTEM;
-    let c = CACHE;
-    let e = CACHE_END;
+    };
+    unpack_words(state)
+}
+
+// The same over as many words as a machine has.
+fn unpack_words(state: &[u32; STATE_WORDS]) -> Machine
+    ensures { result ≡ machine_at state.now }
+{
     Machine {
-        sys: system_words::state::unpack(&state[s..c]),
-        cache: cache_words::unpack(&state[c..e]),
+        sys: system_words::state::unpack(&state[SYSTEM..SYSTEM_END]),
+        cache: cache_words::unpack(&state[CACHE..CACHE_END]),
         irqc: controller(state),
-        reg: system_words::state::unpack_reg(&state[s..c]),
+        reg: system_words::state::unpack_reg(&state[SYSTEM..SYSTEM_END]),
     }
 }

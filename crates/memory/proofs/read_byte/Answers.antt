@@ -1,19 +1,10 @@
--- `memory::read_byte` meets its contract: the address is below the map, in it or above it. Assumes nothing.
-use Prim.Native.Nat.{◌-◌}
-use native.Mathlib.Omega.{arith}
-use Rattle.memory.proofs.Places.{byte_below, byte_inside, byte_above}
+-- `memory::read_byte` meets its contract: the byte lies in the map, or it does not. Assumes nothing.
+use Rattle.std.proofs.Common.{rules}
+use Rattle.memory.proofs.Places.{byte_missing, byte_read}
 use Rattle.memory.proofs.read_byte.Goals as goal
 
-pub returns-then-addr-base : goal.returns-then-addr-base
-returns-then-addr-base c = search byte_below
+pub returns-in_err-byte : goal.returns-in_err-byte
+returns-in_err-byte c = search (byte_missing, rules)
 
-pub overflow_cast-result : goal.overflow_cast-result
-overflow_cast-result c =
-    let a = c.args in
-    omega (arith, c.type_inv.mem (a.addr - a.base))
-
-pub returns-then-at-mem : goal.returns-then-at-mem
-returns-then-at-mem c = search byte_inside
-
-pub returns-else-at-mem : goal.returns-else-at-mem
-returns-else-at-mem c = search byte_above
+pub returns : goal.returns
+returns c = search (byte_read, rules)

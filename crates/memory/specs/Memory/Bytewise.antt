@@ -6,15 +6,13 @@
 --   put_none, put_next                              == a write, byte by byte
 --   writable_none, writable_next                    == that every address is writable, one by one
 --   put_four, read_four                             == a word's four bytes, written and read
-use Rattle.std.specs.Prelude.{ℕ, ◌+◌, ◌-◌, ◌*◌, ◌<◌, ◌≡◌, true, ◌&&◌, List, [], ◌∷◌, map, get_or}
+use Rattle.std.specs.Prelude.{ℕ, ◌+◌, ◌-◌, ◌*◌, ◌<◌, ◌≡◌, true, ◌&&◌, List, [], ◌∷◌, map, get_or, Option, Some, None}
 use Rattle.std.proofs.Math.Path.{refl}
 use Rattle.common.specs.Bytes.{big_endian}
 use Rattle.common.specs.Cases.{cond_case, absurd_eq}
 use Rattle.memory.specs.Memory.{Memory, readable, writable, byte_at, gathered, read_at, word_spots, put_byte, put_at, all_writable}
-use Rattle.memory.specs.declared.Content.{Content}
-use Rattle.memory.specs.declared.Content.TheVariants.{Value, Outside}
 
-abbrev pub read_on : Memory → ℕ → List ℕ → Content
+abbrev pub read_on : Memory → ℕ → List ℕ → Option ℕ
 read_on m high l = gathered high (map (byte_at m) l)
 
 pub read_whole : (m : Memory) (l : List ℕ) → read_at m l ≡ read_on m 0 l
@@ -22,22 +20,22 @@ unfolding read_at
 read_whole m l = refl
 
 module _ (m : Memory) (high : ℕ) where
-  pub read_none : read_on m high [] ≡ Value high
+  pub read_none : read_on m high [] ≡ Some high
   unfolding gathered
   read_none = refl
 
-  pub read_value : (a b : ℕ) (l : List ℕ) → byte_at m a ≡ Value b → read_on m high (a ∷ l) ≡ read_on m (high * 256 + b) l
+  pub read_value : (a b : ℕ) (l : List ℕ) → byte_at m a ≡ Some b → read_on m high (a ∷ l) ≡ read_on m (high * 256 + b) l
   unfolding gathered
   read_value a b l e = rw e
 
-  pub read_outside : (a : ℕ) (l : List ℕ) → byte_at m a ≡ Outside → read_on m high (a ∷ l) ≡ Outside
+  pub read_outside : (a : ℕ) (l : List ℕ) → byte_at m a ≡ None → read_on m high (a ∷ l) ≡ None
   unfolding gathered
   read_outside a l e = rw e
 
-pub byte_small : (m : Memory) (a b : ℕ) → ((i : ℕ) → get_or m.bytes i 0 < 256) → byte_at m a ≡ Value b → b < 256
+pub byte_small : (m : Memory) (a b : ℕ) → ((i : ℕ) → get_or m.bytes i 0 < 256) → byte_at m a ≡ Some b → b < 256
 unfolding byte_at
 byte_small m a b h =
-    cond_case (λ (x : Content). x ≡ Value b → b < 256) (readable m a)
+    cond_case (λ (x : Option ℕ). x ≡ Some b → b < 256) (readable m a)
     (λ t e. let q : get_or m.bytes (a - m.base) 0 ≡ b = cc in rw q at (h (a - m.base)))
     (λ t e. absurd_eq (cc))
 
@@ -64,7 +62,7 @@ pub put_four : (m : Memory) (a b₀ b₁ b₂ b₃ : ℕ)
 unfolding put_at
 put_four m a b₀ b₁ b₂ b₃ = refl
 
-pub read_four : (m : Memory) (a b₀ b₁ b₂ b₃ : ℕ) → byte_at m a ≡ Value b₀ → byte_at m (a + 1) ≡ Value b₁ → byte_at m (a + 2) ≡ Value b₂ → byte_at m (a + 3) ≡ Value b₃
-    → read_at m (word_spots a) ≡ Value (big_endian (b₀ ∷ b₁ ∷ b₂ ∷ b₃ ∷ []))
+pub read_four : (m : Memory) (a b₀ b₁ b₂ b₃ : ℕ) → byte_at m a ≡ Some b₀ → byte_at m (a + 1) ≡ Some b₁ → byte_at m (a + 2) ≡ Some b₂ → byte_at m (a + 3) ≡ Some b₃
+    → read_at m (word_spots a) ≡ Some (big_endian (b₀ ∷ b₁ ∷ b₂ ∷ b₃ ∷ []))
 unfolding read_at gathered
 read_four m a b₀ b₁ b₂ b₃ p q r s = rw (p, q, r, s)

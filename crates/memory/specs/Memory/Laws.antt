@@ -9,13 +9,11 @@
 --   inside_map, inside_bounds       == inside is between the map's first address and its end
 --   good_map_is, good_map_end       == the tests that a good map passes; it ends at 0xFFFF0000 or before
 --   lent_put                        == a byte written at a base keeps the base
-use Rattle.std.specs.Prelude.{ℕ, ◌+◌, ◌-◌, ◌%◌, ◌≤◌, ◌<◌, ◌≡◌, refl, true, false, ◌&&◌, List, [], ◌∷◌, map, ◌≢◌, leb, ltb, eqb, length, get_or, set}
+use Rattle.std.specs.Prelude.{ℕ, ◌+◌, ◌-◌, ◌%◌, ◌≤◌, ◌<◌, ◌≡◌, refl, true, false, ◌&&◌, List, [], ◌∷◌, map, ◌≢◌, leb, ltb, eqb, length, get_or, set, Option, Some, None}
 use Rattle.std.proofs.Common.{sym, ap, ◌∙◌, ⊎_elim, arith, length-set, get_or-set_same, get_or-set_other, leb-true, ltb-true, le-leb, lt-ltb}
 use Rattle.std.proofs.Math.Decide.{ℕ_discrete}
 use Rattle.common.specs.Cases.{absurd_eq, bool_is, cond_holds, and_left, and_right}
 use Rattle.common.specs.Lists.{Each}
-use Rattle.memory.specs.declared.Content.{Content}
-use Rattle.memory.specs.declared.Content.TheVariants.{Value, Outside}
 use Rattle.memory.specs.Memory.{Memory, lent, good_map, inside, readable, writable, byte_at, read_at, put_byte, put_at, all_writable}
 
 pub good_map_is : (base n : ℕ) → good_map base n ≡ (eqb (base % 4096) 0 && eqb (n % 4096) 0 && leb (base + n) 0xFFFF_0000)
@@ -65,19 +63,19 @@ unfolding read_at
 read_same m m' l h = rw (map_same m m' l h)
 
 -- a byte of the map, and an address outside it
-pub byte_inside : (m : Memory) (a : ℕ) → readable m a ≡ true → byte_at m a ≡ Value (get_or m.bytes (a - m.base) 0)
+pub byte_inside : (m : Memory) (a : ℕ) → readable m a ≡ true → byte_at m a ≡ Some (get_or m.bytes (a - m.base) 0)
 unfolding byte_at
 byte_inside m a h = rw h
 
-pub byte_outside : (m : Memory) (a : ℕ) → readable m a ≡ false → byte_at m a ≡ Outside
+pub byte_outside : (m : Memory) (a : ℕ) → readable m a ≡ false → byte_at m a ≡ None
 unfolding byte_at
 byte_outside m a h = rw h
 
 -- an address that is outside one memory is outside another of the same map
-pub outside_same : (m m' : Memory) → SameMap m m' → (a : ℕ) → byte_at m a ≡ Outside → byte_at m' a ≡ Outside
+pub outside_same : (m m' : Memory) → SameMap m m' → (a : ℕ) → byte_at m a ≡ None → byte_at m' a ≡ None
 outside_same m m' same a h =
     ⊎_elim
-    (λ (t : inside m a ≡ true). absurd_eq (let z : Value _ ≡ Outside = sym (byte_inside m a t) ∙ h in cc))
+    (λ (t : inside m a ≡ true). absurd_eq (let z : Some _ ≡ None = sym (byte_inside m a t) ∙ h in cc))
     (λ (t : inside m a ≡ false). byte_outside m' a (sym (inside_same m m' same a) ∙ t))
     (bool_is (inside m a))
 
@@ -98,9 +96,9 @@ pub lent_put : (m : Memory) (a b : ℕ) → lent m.base (put_byte m a b).bytes �
 lent_put m a b = ap (λ (n : ℕ). lent n (put_byte m a b).bytes) (sym (put_base m a b))
 
 -- a written byte, if there is one
-abbrev pub over : ℕ → Content → Content
-over v Outside = Outside
-over v (Value x) = Value v
+abbrev pub over : ℕ → Option ℕ → Option ℕ
+over v None = None
+over v (Some x) = Some v
 
 pub put_in : (m : Memory) (a v : ℕ) → writable m a ≡ true → put_byte m a v ≡ lent m.base (set m.bytes (a - m.base) v)
 unfolding put_byte
@@ -116,7 +114,7 @@ put_here m a v =
     (λ (h : inside m a ≡ true).
     rw (byte_inside m a h)
     (byte_inside (put_byte m a v) a (inside_same (put_byte m a v) m (put_map m a v) a ∙ h)
-    ∙ rw (put_in m a v h) (ap Value (get_or-set_same m.bytes (a - m.base) v 0 (omega (arith, inside_bounds m a h))))))
+    ∙ rw (put_in m a v h) (ap Some (get_or-set_same m.bytes (a - m.base) v 0 (omega (arith, inside_bounds m a h))))))
     (λ (h : inside m a ≡ false). rw (put_out m a v h, byte_outside m a h))
     (bool_is (inside m a))
 
@@ -128,7 +126,7 @@ put_other m a v b ne =
     (λ (g : inside m b ≡ true).
     let off : b - m.base ≢ a - m.base = λ e. ne (omega (arith, (inside_bounds m a h).0, (inside_bounds m b g).0)) in
     byte_inside (put_byte m a v) b (inside_same (put_byte m a v) m (put_map m a v) b ∙ g)
-    ∙ rw (put_in m a v h) (ap Value (get_or-set_other m.bytes (a - m.base) (b - m.base) v 0 off))
+    ∙ rw (put_in m a v h) (ap Some (get_or-set_other m.bytes (a - m.base) (b - m.base) v 0 off))
     ∙ sym (byte_inside m b g))
     (λ (g : inside m b ≡ false).
     byte_outside (put_byte m a v) b (inside_same (put_byte m a v) m (put_map m a v) b ∙ g) ∙ sym (byte_outside m b g))

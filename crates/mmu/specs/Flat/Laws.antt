@@ -7,7 +7,7 @@
 --   vm_word                                           == what a word of an entry set does
 --   vm_entry                                          == all four of them set: the entry stands in its slot
 --   grant_open, grant_none                            == what a grant says of the check that it stands for, and what none says
-use Rattle.std.specs.Prelude.{◌≡◌, ℕ, ◌+◌, ◌*◌, ◌%◌, ◌^◌, ◌<◌, Bool, true, false, List, [], ◌∷◌, length, set, ◌==◌, slice_index, slice_index_or, slice_set, refl}
+use Rattle.std.specs.Prelude.{◌≡◌, ℕ, ◌+◌, ◌*◌, ◌%◌, ◌^◌, ◌<◌, Bool, true, false, List, [], ◌∷◌, length, set, ◌==◌, slice_index, slice_index_or, slice_set, refl, Option, Some, None, Result, Ok, Err}
 use Rattle.std.proofs.Common.{sym, ap, ◌∙◌, arith, set-set}
 use Rattle.std.proofs.Math.ListN.{length-set}
 use Rattle.std.proofs.Math.Seq.{get_or-set_same, get_or-set_other}
@@ -19,8 +19,6 @@ use Rattle.mmu.specs.Flat.{tlb_start, tlb_words, vm_words, grant_to, grant_if, l
 use Rattle.mmu.specs.Tlb.{no_entry}
 use Rattle.mmu.specs.Vm.{with_tlb, frame_of}
 use Rattle.mmu.specs.declared.check.Checked.{Checked}
-use Rattle.mmu.specs.declared.check.Verdict.{Verdict}
-use Rattle.mmu.specs.declared.check.Verdict.TheVariants.{Allowed, Denied}
 use Rattle.mmu.specs.declared.exception.Exception.{Exception}
 use Rattle.mmu.specs.declared.flat.PageGrant.{PageGrant}
 use Rattle.mmu.specs.declared.tlb.TlbEntry.{TlbEntry}
@@ -180,25 +178,26 @@ vm_entry l i a b c d long h =
 -- ---- a grant
 
 -- what a grant r and the state v' after it say of the check c, by its verdict
-abbrev Granted : Checked → ℕ → Vm → PageGrant → Vm → Verdict → Type 0
+abbrev Granted : Checked → ℕ → Vm → Option PageGrant → Vm → Result (Unit {0}) Exception → Type 0
 Granted c va v r v' d = (r ≡ grant_if d (grant_to (frame_of c.vm va) c.reads)) × (v' ≡ left_if d c.vm v)
 
 abbrev pub Opens : Checked → ℕ → PageGrant → Vm → Type 0
-Opens c va r v' = (c.verdict ≡ Allowed) × (r.ppn ≡ frame_of c.vm va) × (r.reads ≡ c.reads) × (v' ≡ c.vm)
+Opens c va r v' = (c.verdict ≡ Ok tt) × (r.ppn ≡ frame_of c.vm va) × (r.reads ≡ c.reads) × (v' ≡ c.vm)
 
-opens_by : (c : Checked) (va : ℕ) (v : Vm) (r : PageGrant) (v' : Vm) (d : Verdict) → c.verdict ≡ d → Granted c va v r v' d → r.granted ≡ true → Opens c va r v'
-opens_by c va v r v' Allowed e w h = (e, ap (λ (g : PageGrant). g.ppn) w.0, ap (λ (g : PageGrant). g.reads) w.0, w.1)
-opens_by c va v r v' (Denied x) e w h = absurd_eq (cc)
+opens_by : (c : Checked) (va : ℕ) (v : Vm) (r : Option PageGrant) (g : PageGrant) (v' : Vm) (d : Result (Unit {0}) Exception) → c.verdict ≡ d → Granted c va v r v' d → r ≡ Some g
+    → Opens c va g v'
+opens_by c va v r g v' (Ok tt) e w h = let is : g ≡ grant_to (frame_of c.vm va) c.reads = cc in (e, ap (λ (x : PageGrant). x.ppn) is, ap (λ (x : PageGrant). x.reads) is, w.1)
+opens_by c va v r g v' (Err x) e w h = absurd_eq (cc)
 
-pub grant_open : (c : Checked) (va : ℕ) (v : Vm) (r : PageGrant) (v' : Vm) → GrantedBy c va v r v' → r.granted ≡ true → Opens c va r v'
-grant_open c va v r v' w h = opens_by c va v r v' c.verdict refl w h
+pub grant_open : (c : Checked) (va : ℕ) (v : Vm) (r : Option PageGrant) (g : PageGrant) (v' : Vm) → GrantedBy c va v r v' → r ≡ Some g → Opens c va g v'
+grant_open c va v r g v' w h = opens_by c va v r g v' c.verdict refl w h
 
 abbrev pub Shuts : Checked → Vm → Vm → Type 0
-Shuts c v v' = ((e : Exception) × (c.verdict ≡ Denied e)) × (v' ≡ v)
+Shuts c v v' = ((e : Exception) × (c.verdict ≡ Err e)) × (v' ≡ v)
 
-shuts_by : (c : Checked) (va : ℕ) (v : Vm) (r : PageGrant) (v' : Vm) (d : Verdict) → c.verdict ≡ d → Granted c va v r v' d → r.granted ≡ false → Shuts c v v'
-shuts_by c va v r v' Allowed e w h = absurd_eq (cc)
-shuts_by c va v r v' (Denied x) e w h = ((x, e), w.1)
+shuts_by : (c : Checked) (va : ℕ) (v : Vm) (r : Option PageGrant) (v' : Vm) (d : Result (Unit {0}) Exception) → c.verdict ≡ d → Granted c va v r v' d → r ≡ None → Shuts c v v'
+shuts_by c va v r v' (Ok tt) e w h = absurd_eq (cc)
+shuts_by c va v r v' (Err x) e w h = ((x, e), w.1)
 
-pub grant_none : (c : Checked) (va : ℕ) (v : Vm) (r : PageGrant) (v' : Vm) → GrantedBy c va v r v' → r.granted ≡ false → Shuts c v v'
+pub grant_none : (c : Checked) (va : ℕ) (v : Vm) (r : Option PageGrant) (v' : Vm) → GrantedBy c va v r v' → r ≡ None → Shuts c v v'
 grant_none c va v r v' w h = shuts_by c va v r v' c.verdict refl w h

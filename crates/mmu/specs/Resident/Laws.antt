@@ -5,7 +5,7 @@
 --   orderly_page, orderly_each                           == so does one after the check of a page, and of several
 --   resident_page                                        == the check of a resident page, whose entry decides: no word is read and nothing changes
 --   judged_open, judged_only, permits_when, permits_only == it allows exactly what the entry permits: U, the access's bit and a page below 0xFFFF0000
-use Rattle.std.specs.Prelude.{◌≡◌, ℕ, zero, suc, ◌*◌, ◌/◌, ◌^◌, ◌<◌, Bool, true, false, cond, not, ◌&&◌, ◌⊎◌, List, [], ◌∷◌, length, ◌==◌, ◌≢◌, nat_eq, slice_set}
+use Rattle.std.specs.Prelude.{◌≡◌, ℕ, zero, suc, ◌*◌, ◌/◌, ◌^◌, ◌<◌, Bool, true, false, cond, not, ◌&&◌, ◌⊎◌, List, [], ◌∷◌, length, ◌==◌, ◌≢◌, nat_eq, slice_set, Option, Some, None, Result, Ok, Err}
 use Rattle.std.proofs.Math.Path.{refl, ap}
 use Rattle.std.proofs.Common.{sym, ◌∙◌, inl, inr, ⊎_elim, arith, get_or-set_same, get_or-set_other}
 use Rattle.std.proofs.Math.ListN.{length-map}
@@ -24,15 +24,12 @@ use Rattle.mmu.specs.Vm.{victim, filled, flushed, invalidated, slot_of}
 use Rattle.mmu.specs.Vm.Laws.{no_entries_lem}
 use Rattle.mmu.specs.Walk.{walk_of}
 use Rattle.mmu.specs.declared.check.Checked.{Checked}
-use Rattle.mmu.specs.declared.check.Verdict.{Verdict}
-use Rattle.mmu.specs.declared.check.Verdict.TheVariants.{Allowed, Denied}
+use Rattle.mmu.specs.declared.exception.Exception.{Exception}
+use Rattle.mmu.specs.declared.walk.WalkFault.TheVariants as walked
+use Rattle.mmu.specs.declared.walk.WalkFault.{WalkFault}
 use Rattle.mmu.specs.declared.exception.Access.{Access}
-use Rattle.mmu.specs.declared.tlb.Slot.{Slot}
-use Rattle.mmu.specs.declared.tlb.Slot.TheVariants.{At, Nothing}
 use Rattle.mmu.specs.declared.tlb.TlbEntry.{TlbEntry}
 use Rattle.mmu.specs.declared.vm.Vm.{Vm}
-use Rattle.mmu.specs.declared.walk.Walked.{Walked}
-use Rattle.mmu.specs.declared.walk.Walked.TheVariants as walked
 
 -- ---- a flush
 
@@ -75,11 +72,11 @@ module _ (vm : Vm) (va : ℕ) where
 
 -- ---- a fill of a page that was not resident
 
-no_match : (k : ℕ) (rest : Slot) (b : Bool) → cond b (At k) rest ≡ Nothing → (b ≡ false) × (rest ≡ Nothing)
+no_match : (k : ℕ) (rest : Option ℕ) (b : Bool) → cond b (Some k) rest ≡ None → (b ≡ false) × (rest ≡ None)
 no_match k rest true p = absurd_eq (cc)
 no_match k rest false p = (refl, p)
 
-none_from : (v k : ℕ) (l : List TlbEntry) → first_match v k l ≡ Nothing → (j : ℕ) → matches v (in_slot l j) ≡ false
+none_from : (v k : ℕ) (l : List TlbEntry) → first_match v k l ≡ None → (j : ℕ) → matches v (in_slot l j) ≡ false
 unfolding first_match matches
 none_from v k [] p j = refl
 none_from v k (x ∷ l) p zero = (no_match k (first_match v (suc k) l) (matches v x) p).0
@@ -89,7 +86,7 @@ unmatched : (v : ℕ) (x : TlbEntry) → matches v x ≡ false → x.valid ≡ t
 unfolding matches
 unmatched v x p h e = let same : nat_eq x.vpn v ≡ true = eq-eqb x.vpn v e in let z = rw (h, same) at p in absurd_eq (cc)
 
-module _ (t : List TlbEntry) (n : ℕ) (e : TlbEntry) (inside : n < length t) (o : Orderly t) (new : first_match e.vpn 0 t ≡ Nothing) (below : e.vpn * 4096 < 0xFFFF_0000) where
+module _ (t : List TlbEntry) (n : ℕ) (e : TlbEntry) (inside : n < length t) (o : Orderly t) (new : first_match e.vpn 0 t ≡ None) (below : e.vpn * 4096 < 0xFFFF_0000) where
   abbrev u : List TlbEntry
   u = slice_set t n e
 
@@ -126,25 +123,25 @@ module _ (t : List TlbEntry) (n : ℕ) (e : TlbEntry) (inside : n < length t) (o
   orderly_set : Orderly u
   orderly_set = record { one = set_one; low = set_low }
 
-orderly_filled : (vm : Vm) (e : TlbEntry) → length vm.tlb ≡ 16 → Orderly vm.tlb → first_match e.vpn 0 vm.tlb ≡ Nothing → e.vpn * 4096 < 0xFFFF_0000 → Orderly (filled vm e).tlb
+orderly_filled : (vm : Vm) (e : TlbEntry) → length vm.tlb ≡ 16 → Orderly vm.tlb → first_match e.vpn 0 vm.tlb ≡ None → e.vpn * 4096 < 0xFFFF_0000 → Orderly (filled vm e).tlb
 unfolding filled
 orderly_filled vm e slots o new below = orderly_set vm.tlb (victim vm) e (omega arith) o new below
 
 -- ---- the check of a page
 
 module _ (m : Memory) (vm : Vm) (k : Access) (va : ℕ) (small : va < 2 ^ 32) (slots : length vm.tlb ≡ 16) (o : Orderly vm.tlb) where
-  by_walk_lem : (x : Walked) (n : ℕ) → (walk_of m vm.ptbr va).walked ≡ x → slot_of vm va ≡ Nothing → page_addr (va / 4096) < 0xFFFF_0000 → Orderly (by_walk vm k va n x).vm.tlb
+  by_walk_lem : (x : Result TlbEntry WalkFault) (n : ℕ) → (walk_of m vm.ptbr va).walked ≡ x → slot_of vm va ≡ None → page_addr (va / 4096) < 0xFFFF_0000 → Orderly (by_walk vm k va n x).vm.tlb
   unfolding by_walk
-  by_walk_lem (walked.Leaf e) n w none low =
+  by_walk_lem (Ok e) n w none low =
       let page : e.vpn ≡ va / 4096 = matches_page (va / 4096) e (walked_matches m vm.ptbr va e w) in
       orderly_filled vm e slots o (rw page none) (rw page (omega arith))
-  by_walk_lem walked.Missing n w none low = o
-  by_walk_lem walked.BusError n w none low = o
+  by_walk_lem (Err walked.Missing) n w none low = o
+  by_walk_lem (Err walked.BusError) n w none low = o
 
-  by_slot_lem : (s : Slot) → slot_of vm va ≡ s → page_addr (va / 4096) < 0xFFFF_0000 → Orderly (by_slot vm k va (walk_of m vm.ptbr va) s).vm.tlb
+  by_slot_lem : (s : Option ℕ) → slot_of vm va ≡ s → page_addr (va / 4096) < 0xFFFF_0000 → Orderly (by_slot vm k va (walk_of m vm.ptbr va) s).vm.tlb
   unfolding by_slot
-  by_slot_lem (At i) e low = o
-  by_slot_lem Nothing e low = by_walk_lem (walk_of m vm.ptbr va).walked (walk_of m vm.ptbr va).reads refl e low
+  by_slot_lem (Some i) e low = o
+  by_slot_lem None e low = by_walk_lem (walk_of m vm.ptbr va).walked (walk_of m vm.ptbr va).reads refl e low
 
   pub orderly_page : Orderly (check_page m vm k va).vm.tlb
   unfolding check_page check_with
@@ -152,7 +149,7 @@ module _ (m : Memory) (vm : Vm) (k : Access) (va : ℕ) (small : va < 2 ^ 32) (s
       cond_case (λ (c : Checked). Orderly c.vm.tlb) (below_reserved (page_addr (va / 4096)))
       (λ t. by_slot_lem (slot_of vm va) refl (ltb-true (page_addr (va / 4096)) 0xFFFF_0000 t)) (λ t. o)
 
-  pub resident_page : (i : ℕ) → slot_of vm va ≡ At i → check_page m vm k va ≡ checked vm (judged (in_slot vm.tlb i) k va) 0
+  pub resident_page : (i : ℕ) → slot_of vm va ≡ Some i → check_page m vm k va ≡ checked vm (judged (in_slot vm.tlb i) k va) 0
   unfolding check_page check_with by_slot
   resident_page i e =
       let hit = found_matches (va / 4096) vm.tlb i e in
@@ -162,10 +159,10 @@ module _ (m : Memory) (vm : Vm) (k : Access) (va : ℕ) (small : va < 2 ^ 32) (s
 
 -- ---- the check of pages
 
-after_orderly : (v : Verdict) (page rest : Checked) → Orderly page.vm.tlb → Orderly rest.vm.tlb → Orderly (after_page v page rest).vm.tlb
+after_orderly : (v : Result (Unit {0}) Exception) (page rest : Checked) → Orderly page.vm.tlb → Orderly rest.vm.tlb → Orderly (after_page v page rest).vm.tlb
 unfolding after_page
-after_orderly Allowed page rest p q = q
-after_orderly (Denied e) page rest p q = p
+after_orderly (Ok tt) page rest p q = q
+after_orderly (Err e) page rest p q = p
 
 pub orderly_each : (m : Memory) (k : Access) (l : List ℕ) (vm : Vm) → Small l → length vm.tlb ≡ 16 → Orderly vm.tlb → Orderly (check_each m k vm l).vm.tlb
 unfolding check_each
@@ -178,13 +175,13 @@ orderly_each m k (va ∷ l) vm small slots o =
 
 -- ---- what an entry permits
 
-pub judged_open : (e : TlbEntry) (k : Access) (va : ℕ) → permits e k ≡ true → judged e k va ≡ Allowed
+pub judged_open : (e : TlbEntry) (k : Access) (va : ℕ) → permits e k ≡ true → judged e k va ≡ Ok tt
 unfolding judged
 judged_open e k va h = rw h
 
-pub judged_only : (e : TlbEntry) (k : Access) (va : ℕ) → judged e k va ≡ Allowed → permits e k ≡ true
+pub judged_only : (e : TlbEntry) (k : Access) (va : ℕ) → judged e k va ≡ Ok tt → permits e k ≡ true
 unfolding judged
-judged_only e k va = cond_case (λ (v : Verdict). v ≡ Allowed → permits e k ≡ true) (permits e k) (λ t h. t) (λ t h. absurd_eq (cc))
+judged_only e k va = cond_case (λ (v : Result (Unit {0}) Exception). v ≡ Ok tt → permits e k ≡ true) (permits e k) (λ t h. t) (λ t h. absurd_eq (cc))
 
 module _ (e : TlbEntry) (k : Access) where
   abbrev bits : Bool

@@ -5,14 +5,12 @@
 --   walk_two, walk_one       == a walk by the words that it reads
 --   leaf_found, no_leaf      == what the second word leads to
 --   entry_of_lem             == the entry of a leaf, from its frame and bits
-use Rattle.std.specs.Prelude.{◌≡◌, ℕ, ◌+◌, ◌*◌, ◌/◌, ◌%◌, ◌^◌, ◌<◌, true, false, not, ◌&&◌, ◌||◌, ◌==◌, refl}
+use Rattle.std.specs.Prelude.{◌≡◌, ℕ, ◌+◌, ◌*◌, ◌/◌, ◌%◌, ◌^◌, ◌<◌, true, false, not, ◌&&◌, ◌||◌, ◌==◌, refl, Option, Some, Ok, Err}
 use Rattle.std.proofs.Common.{ap, ◌∙◌, div-one, arith}
 use Rattle.common.specs.Bits.{bit_set}
 use Rattle.memory.specs.Memory.{Memory, read_at, word_spots}
-use Rattle.memory.specs.declared.Content.{Content}
-use Rattle.memory.specs.declared.Content.TheVariants.{Value}
+use Rattle.mmu.specs.declared.walk.WalkFault.TheVariants.{Missing}
 use Rattle.mmu.specs.Walk.{table_ok, leaf_ok, leaf_entry, spot1, spot2, walk_leaf, walk_table, walk_of}
-use Rattle.mmu.specs.declared.walk.Walked.TheVariants.{Leaf, Missing}
 
 -- the word 4096 q + 2 c + 1, where c has four bits
 leaf_word : (q c : ℕ) → c < 16 → leaf_ok (4096 * q + 2 * c + 1) ≡ (not (c % 8 == 0) && (not (c / 2 % 2 == 1) || c % 2 == 1))
@@ -56,20 +54,20 @@ pub none_followed : table_ok 0 ≡ false
 unfolding table_ok bit_set
 none_followed = refl
 
-module _ (m : Memory) (ptbr va w : ℕ) (p : read_at m (word_spots (spot1 ptbr va)) ≡ Value w) where
-  pub walk_two : (o : Content) → table_ok w ≡ true → read_at m (word_spots (spot2 w va)) ≡ o → walk_of m ptbr va ≡ walk_leaf va o
+module _ (m : Memory) (ptbr va w : ℕ) (p : read_at m (word_spots (spot1 ptbr va)) ≡ Some w) where
+  pub walk_two : (o : Option ℕ) → table_ok w ≡ true → read_at m (word_spots (spot2 w va)) ≡ o → walk_of m ptbr va ≡ walk_leaf va o
   unfolding walk_of walk_table
   walk_two o t q = rw (p, t, q)
 
-  pub walk_one : table_ok w ≡ false → (walk_of m ptbr va).walked ≡ Missing
+  pub walk_one : table_ok w ≡ false → (walk_of m ptbr va).walked ≡ Err Missing
   unfolding walk_of walk_table
   walk_one t = rw (p, t)
 
-pub leaf_found : (va w : ℕ) → leaf_ok w ≡ true → (walk_leaf va (Value w)).walked ≡ Leaf (leaf_entry va w)
+pub leaf_found : (va w : ℕ) → leaf_ok w ≡ true → (walk_leaf va (Some w)).walked ≡ Ok (leaf_entry va w)
 unfolding walk_leaf
 leaf_found va w t = rw t
 
-pub no_leaf : (va : ℕ) → (walk_leaf va (Value 0)).walked ≡ Missing
+pub no_leaf : (va : ℕ) → (walk_leaf va (Some 0)).walked ≡ Err Missing
 unfolding walk_leaf leaf_ok bit_set
 no_leaf va = refl
 

@@ -1,5 +1,8 @@
 -- Traps on the state's words. Assumes nothing.
-use Rattle.std.proofs.Common.{◌≡◌, ℕ, ◌%◌, Bool, true, false, eqb, List, [], ◌∷◌, length, get_or, set, sym, refl, ◌∙◌, arith, length-set, eq-eqb, ne_eqb}
+use Rattle.std.proofs.Common.{◌≡◌, ℕ, ◌%◌, ◌<◌, Bool, true, false, eqb, List, [], ◌∷◌, length, get_or, set, sym, refl, ap, ◌∙◌, arith, length-set, eq-eqb, ne_eqb, get_or-set_other}
+use Rattle.std.specs.List.{swap}
+use Rattle.std.proofs.lemmas.List.Edits.{swap_is}
+use mir.Val.{bool_byte}
 use Rattle.layout.specs.Words.{over_none, over_all}
 use Rattle.privilege.specs.Flat.{system_words, sys_at, reg_at, Becomes, Exchanges, Traps, Returns}
 use Rattle.privilege.specs.Flat.Laws.{ten, sys_reg, reg_set, reg_get}
@@ -8,6 +11,7 @@ use Rattle.privilege.specs.Trap.{saved, enters_user}
 use Rattle.privilege.specs.declared.flat.traps.Resumed.{Resumed}
 use Rattle.privilege.specs.declared.state.InstructionMode.{InstructionMode}
 use Rattle.privilege.specs.declared.state.InstructionMode.TheVariants.{Normal, Short}
+use Rattle.privilege.proofs.Numbers.{bool_number}
 use Rattle.privilege.proofs.Traps.{from_user, from_supervisor, no_entry_lem, entry, to_user, stays}
 
 -- ---- the words that are read
@@ -38,7 +42,7 @@ lived m x y z = (
   rw (reg_set (set (set m 131 x) 132 y) 30 z (omega arith), reg_set (set m 131 x) 29 y (omega arith), reg_set m 28 x (omega arith)),
 )
 
-pub exchange_words : (l : List ℕ) → length l ≡ system_words
+exchange_words : (l : List ℕ) → length l ≡ system_words
     → Exchanges l (set (set (set (banked l (get_or l 131 0) (get_or l 132 0) (get_or l 133 0)) 131 (get_or l 7 0)) 132 (get_or l 8 0)) 133 (get_or l 9 0))
 unfolding sys_at
 exchange_words l n =
@@ -52,6 +56,37 @@ exchange_words l n =
       e.2 ∙ rw k.2,
     )
 
+one : List ℕ → ℕ → ℕ → List ℕ
+one l i j = set (set l i (get_or l j 0)) j (get_or l i 0)
+
+thrice : (l : List ℕ) → length l ≡ system_words
+    → one (one (one l 7 131) 8 132) 9 133
+    ≡ set (set (set (banked l (get_or l 131 0) (get_or l 132 0) (get_or l 133 0)) 131 (get_or l 7 0)) 132 (get_or l 8 0)) 133 (get_or l 9 0)
+unfolding one
+thrice l n =
+    ten
+    (λ (l : List ℕ). one (one (one l 7 131) 8 132) 9 133
+    ≡ set (set (set (banked l (get_or l 131 0) (get_or l 132 0) (get_or l 133 0)) 131 (get_or l 7 0)) 132 (get_or l 8 0)) 133 (get_or l 9 0))
+    (λ q r s t u v w x y z k.
+    rw (get_or-set_other k 121 122 x 0 (λ e. omega arith), get_or-set_other (set k 121 x) 122 123 y 0 (λ e. omega arith), get_or-set_other k 121 123 x 0 (λ e. omega arith)))
+    l (omega arith)
+
+swapped : (l : List ℕ) (i j : ℕ) → length l ≡ system_words → i < 135 → j < 135 → (swap l i j ≡ one l i j) × (length (swap l i j) ≡ system_words)
+unfolding one
+swapped l i j n h g =
+    let e : swap l i j ≡ set (set l i (get_or l j 0)) j (get_or l i 0) = sym (swap_is l i j 0 (omega arith) (omega arith)) in
+    (e, rw e (simp length-set n))
+
+pub exchange_swaps : (l a b c : List ℕ) → length l ≡ system_words → a ≡ swap l 7 131 → b ≡ swap a 8 132 → c ≡ swap b 9 133 → Exchanges l c
+exchange_swaps l a b c n p q r =
+    let x = swapped l 7 131 n (omega arith) (omega arith) in
+    let na : length a ≡ system_words = ap length p ∙ x.1 in
+    let y = swapped a 8 132 na (omega arith) (omega arith) in
+    let nb : length b ≡ system_words = ap length q ∙ y.1 in
+    let z = swapped b 9 133 nb (omega arith) (omega arith) in
+    let is : c ≡ one (one (one l 7 131) 8 132) 9 133 = r ∙ z.0 ∙ rw (q, y.0, p, x.0) in
+    rw (is, thrice l n) (exchange_words l n)
+
 -- ---- entry
 
 pub mode_back : (mode : InstructionMode) → mode_of (eqb (bit_if (is_short mode) 1 % 2) 1) ≡ mode
@@ -59,11 +94,11 @@ mode_back Normal = refl
 mode_back Short = refl
 
 module _ (l : List ℕ) (epc cause : ℕ) (mode : InstructionMode) (long : length l ≡ system_words) where
-  pub save_words : (short : Bool) (psm : ℕ) → short ≡ is_short mode → psm ≡ bit_if short 1
-      → Becomes l (set (set (set (set (set (set (set l 0 0) 1 (get_or l 0 0)) 2 0) 3 (get_or l 2 0)) 4 psm) 5 epc) 6 cause) (saved (sys_at l) epc cause mode) (reg_at l)
+  pub save_words : (short : Bool) → short ≡ is_short mode
+      → Becomes l (set (set (set (set (set (set (set l 0 0) 1 (get_or l 0 0)) 2 0) 3 (get_or l 2 0)) 4 (bool_byte short)) 5 epc) 6 cause) (saved (sys_at l) epc cause mode) (reg_at l)
   unfolding sys_at reg_at
-  save_words short psm p q =
-      rw (q, p)
+  save_words short p =
+      rw (bool_number short, p)
       (ten
       (λ (l : List ℕ).
       Becomes l (set (set (set (set (set (set (set l 0 0) 1 (get_or l 0 0)) 2 0) 3 (get_or l 2 0)) 4 (bit_if (is_short mode) 1)) 5 epc) 6 cause) (saved (sys_at l) epc cause mode) (reg_at l))
@@ -134,8 +169,4 @@ module _ (l : List ℕ) (long : length l ≡ system_words) where
           over_all system_words l resumed _ l' _ long (e.0 ∙ w.0)
           (rw (same_mode, same_epc, e.1, e.2, w.1, w.2) (to_user (sys_at l) (reg_at l) true into _ refl refl))
 
--- words that were lent after two were written are as many
-pub lent_after : (l l' : List ℕ) (i j a b : ℕ) → length l' ≡ length (set (set l i a) j b) → length l' ≡ length l
-lent_after l l' i j a b e = e ∙ simp length-set
-
-pub ruleset traps = (exchange_words, save_words, words_from_user, words_from_supervisor, trap_none, return_none, return_in_user, return_stays, return_to_user)
+pub ruleset traps = (exchange_swaps, save_words, words_from_user, words_from_supervisor, trap_none, return_none, return_in_user, return_stays, return_to_user)

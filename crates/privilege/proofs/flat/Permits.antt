@@ -1,22 +1,22 @@
 -- The ways through the check of an access where the state's words stand. Assumes nothing.
-use Rattle.std.proofs.Common.{◌≡◌, ℕ, zero, suc, ◌%◌, ◌^◌, ◌<◌, ◌≤◌, Bool, true, false, cond, eqb, List, length, get_or, sym, refl, ap, ◌∙◌, arith, le-ltb, lt-ltb, eq-eqb, ne_eqb}
-use mathlib.Core.Bool.{or-true}
+use Rattle.std.proofs.Common.{◌≡◌, ℕ, zero, suc, ◌%◌, ◌^◌, ◌<◌, ◌≤◌, Bool, true, false, cond, eqb, List, length, get_or, sym, refl, ap, ◌∙◌, arith, le-ltb, lt-ltb, eq-eqb, ne_eqb, Option, Some, None, Result, Ok, Err}
+use Rattle.std.proofs.Math.Bool.{or-true}
 use Rattle.common.specs.Cases.{absurd_eq}
 use Rattle.common.specs.declared.Refusal.{Refusal}
 use Rattle.common.specs.declared.Refusal.TheVariants.{Map}
 use Rattle.layout.specs.Words.{part, put, Over, Reads, part_length, over_none, over_all}
-use Rattle.memory.specs.Gate.{Refused as Shut, opens, access_gate}
-use Rattle.memory.specs.Gate.Laws.{access_open, is_open, is_shut}
+use Rattle.memory.specs.Gate.{access_gate}
+use Rattle.memory.specs.Gate.Laws.{access_open}
 use Rattle.memory.specs.Memory.{Memory}
 use Rattle.mmu.specs.Check.{page_addr, check_page, check_each, last_page, pages_of}
 use Rattle.mmu.specs.Check.Pages.{pages_keep, each_page}
 use Rattle.mmu.specs.Flat.{vm_at, pages_as, no_pages, CheckedPages, GrantsPage}
-use Rattle.mmu.specs.Flat as pages
 use Rattle.mmu.specs.Flat.Laws.{grant_open, grant_none}
 use Rattle.mmu.specs.Opened.Laws.{pages_one}
 use Rattle.mmu.specs.Vm.{frame_of}
 use Rattle.mmu.specs.declared.check.Checked.{Checked}
-use Rattle.mmu.specs.declared.check.Verdict.TheVariants as verdict
+use Rattle.privilege.specs.declared.check.AccessError.TheVariants.{Denied, Refused}
+use Rattle.privilege.specs.declared.check.AccessError.{AccessError}
 use Rattle.mmu.specs.declared.exception.Access.{Access}
 use Rattle.mmu.specs.declared.exception.Access.TheVariants.{Read, Write, Fetch}
 use Rattle.mmu.specs.declared.exception.Exception.{Exception}
@@ -28,7 +28,7 @@ use Rattle.privilege.specs.Access.{fetch_size, data_size, legal_size, translatin
 use Rattle.privilege.specs.Access.Laws as laws
 use Rattle.privilege.specs.Addresses.{addresses}
 use Rattle.privilege.specs.Flat.{regions_from, vm_from, system_words, regions_at, sys_at, reg_at}
-use Rattle.privilege.specs.Flat.Access.{permit_at, permit_of, bare_permit, regions_permit, pages_permit, refused_as, Translated, Answers, Permits, grant_at, no_grant, grant_in, GrantedBy, at_once, GrantsWord}
+use Rattle.privilege.specs.Flat.Access.{permit_at, permit_of, bare_permit, regions_permit, pages_permit, refused_as, Translated, Answers, Permits, grant_at, GrantedBy, at_once, GrantsWord}
 use Rattle.privilege.specs.Flat.Laws.{sys_vm, reg_vm}
 use Rattle.privilege.specs.Region.{all_allowed}
 use Rattle.privilege.specs.Rows.{room_of, next_page}
@@ -36,8 +36,6 @@ use Rattle.privilege.specs.State.{with_vm}
 use Rattle.privilege.specs.Transfer.{joined_to, physical_of}
 use Rattle.privilege.specs.Transfer.Laws.{physical_off, physical_on}
 use Rattle.privilege.specs.declared.check.AccessChecked.{AccessChecked}
-use Rattle.privilege.specs.declared.check.Permission.{Permission}
-use Rattle.privilege.specs.declared.check.Permission.TheVariants.{Allowed, Denied, Refused}
 use Rattle.privilege.specs.declared.flat.access.Grant.{Grant}
 use Rattle.privilege.specs.declared.flat.access.Permit.{Permit}
 use Rattle.privilege.specs.declared.region.Region.{Region}
@@ -47,34 +45,34 @@ use Rattle.privilege.proofs.Transfers.{data_small}
 use Rattle.privilege.proofs.flat.Banks.{user_at}
 use Rattle.privilege.proofs.flat.States.{enabled_at}
 
-abbrev pub permit : Permission → ℕ → ℕ → ℕ → Permit
+abbrev pub permit : Result (Unit {0}) AccessError → ℕ → ℕ → ℕ → Permit
 permit p pa pb reads = record { permission = p; pa = pa; pb = pb; reads = reads }
 
 -- an allowed access whose bytes are where f says, in one page or over two
 module _ (f : ℕ → ℕ) (a n reads : ℕ) where
-  in_page : (pa : ℕ) → n ≤ room_of a → pa ≡ f a → permit Allowed pa 0 reads ≡ permit_at Allowed f a n reads
+  in_page : (pa : ℕ) → n ≤ room_of a → pa ≡ f a → permit (Ok tt) pa 0 reads ≡ permit_at (Ok tt) f a n reads
   in_page pa h e = rw (e, le-ltb (room_of a) n h)
 
-  apart : (pa pb : ℕ) → room_of a < n → pa ≡ f a → pb ≡ f (next_page a) → permit Allowed pa pb reads ≡ permit_at Allowed f a n reads
+  apart : (pa pb : ℕ) → room_of a < n → pa ≡ f a → pb ≡ f (next_page a) → permit (Ok tt) pa pb reads ≡ permit_at (Ok tt) f a n reads
   apart pa pb h e q = rw (e, q, lt-ltb (room_of a) n h)
 
-pub same_places : (p : Permission) (f g : ℕ → ℕ) (a n reads : ℕ) → f a ≡ g a → f (next_page a) ≡ g (next_page a) → permit_at p f a n reads ≡ permit_at p g a n reads
+pub same_places : (p : Result (Unit {0}) AccessError) (f g : ℕ → ℕ) (a n reads : ℕ) → f a ≡ g a → f (next_page a) ≡ g (next_page a) → permit_at p f a n reads ≡ permit_at p g a n reads
 same_places p f g a n reads e q = rw (e, q)
 
 -- ---- not translated
 
 module _ (a n : ℕ) where
-  pub bare_in_page : n ≤ room_of a → permit Allowed a 0 0 ≡ bare_permit a n
+  pub bare_in_page : n ≤ room_of a → permit (Ok tt) a 0 0 ≡ bare_permit a n
   bare_in_page h = in_page (λ (x : ℕ). x) a n 0 a h refl
 
-  pub bare_apart : (pb : ℕ) → room_of a < n → pb ≡ next_page a → permit Allowed a pb 0 ≡ bare_permit a n
+  pub bare_apart : (pb : ℕ) → room_of a < n → pb ≡ next_page a → permit (Ok tt) a pb 0 ≡ bare_permit a n
   bare_apart pb h e = apart (λ (x : ℕ). x) a n 0 a pb h refl e
 
   module _ (rs : List Region) (k : Access) (ok : Bool) (e : ok ≡ all_allowed rs k (addresses n a)) where
     pub regions_grant : (r : Permit) → r ≡ bare_permit a n → ok ≡ true → r ≡ regions_permit rs a n k
     regions_grant r is t = is ∙ rw (← e, t)
 
-    pub regions_deny : ok ≡ false → permit (Denied (ProtectionFault k)) 0 0 0 ≡ regions_permit rs a n k
+    pub regions_deny : ok ≡ false → permit (Err (Denied (ProtectionFault k))) 0 0 0 ≡ regions_permit rs a n k
     regions_deny t = rw (← e, t)
 
 -- ---- translated: what the check of the pages found
@@ -91,23 +89,23 @@ module _ (m : Memory) (l l' : List ℕ) (a n : ℕ) (k : Access) (f : Pages) (lo
   pub found_is : (r : Permit) → r ≡ pages_permit (pages_as f (vm_at l')) a n → Translated m l a n k r l'
   found_is r e = (e ∙ ap (λ (d : Checked). pages_permit d a n) is, ap (λ (d : Checked). d.vm) is)
 
-  pub pages_denied : (e : Exception) → f.verdict ≡ verdict.Denied e → Translated m l a n k (permit (Denied e) 0 0 f.reads) l'
-  pages_denied e h = found_is (permit (Denied e) 0 0 f.reads) (rw h)
+  pub pages_denied : (e : Exception) → f.verdict ≡ Err e → Translated m l a n k (permit (Err (Denied e)) 0 0 f.reads) l'
+  pages_denied e h = found_is (permit (Err (Denied e)) 0 0 f.reads) (rw h)
 
-  module _ (h : f.verdict ≡ verdict.Allowed) where
+  module _ (h : f.verdict ≡ Ok tt) where
     abbrev places : ℕ → ℕ
     places x = joined_to (frame_of (vm_at l') x) x
 
-    pub pages_in_page : (pa : ℕ) → 0 < n → n ≤ room_of a → pa ≡ joined_to f.ppn a → Translated m l a n k (permit Allowed pa 0 f.reads) l'
+    pub pages_in_page : (pa : ℕ) → 0 < n → n ≤ room_of a → pa ≡ joined_to f.ppn a → Translated m l a n k (permit (Ok tt) pa 0 f.reads) l'
     pages_in_page pa some room e =
         let frame : frame_of (vm_at l') a ≡ f.ppn = (w.0 long).1.1 h (omega arith) some in
-        found_is (permit Allowed pa 0 f.reads) (in_page places a n f.reads pa room (e ∙ rw frame) ∙ rw h)
+        found_is (permit (Ok tt) pa 0 f.reads) (in_page places a n f.reads pa room (e ∙ rw frame) ∙ rw h)
 
     pub pages_apart : (first pa next pb : ℕ) → a < 2 ^ 32 → n ≤ 4 → room_of a < n → Reads 69 l' first 0 (frame_of (vm_at l') a) → pa ≡ joined_to first a
-        → next ≡ next_page a → pb ≡ joined_to f.ppn next → Translated m l a n k (permit Allowed pa pb f.reads) l'
+        → next ≡ next_page a → pb ≡ joined_to f.ppn next → Translated m l a n k (permit (Ok tt) pa pb f.reads) l'
     pages_apart first pa next pb small few room found e at q =
         let last : f.ppn ≡ frame_of (vm_at l') (next_page a) = (w.0 long).1.2 ∙ rw (h, last_start a n small few room) in
-        found_is (permit Allowed pa pb f.reads)
+        found_is (permit (Ok tt) pa pb f.reads)
         (apart places a n f.reads pa pb room (e ∙ rw (found.0 (w.0 long).0)) (q ∙ rw (at, last)) ∙ rw h)
 
 -- ---- the words and the state
@@ -143,25 +141,25 @@ module _ (m : Memory) (l : List ℕ) (a n : ℕ) (k : Access) (r : Permit) where
   S = sys_at l
 
   -- one that is not translated is where its addresses say
-  unmoved : translating_of S ≡ false → permit_of (access_answered S Allowed) a n ≡ bare_permit a n
-  unmoved t = same_places Allowed (physical_of S) (λ (x : ℕ). x) a n 0 (physical_off S a t) (physical_off S (next_page a) t)
+  unmoved : translating_of S ≡ false → permit_of (access_answered S (Ok tt)) a n ≡ bare_permit a n
+  unmoved t = same_places (Ok tt) (physical_of S) (λ (x : ℕ). x) a n 0 (physical_off S a t) (physical_off S (next_page a) t)
 
-  answers : (p : Permission) → check_legal m S a n k ≡ access_answered S p → r ≡ permit_of (access_answered S p) a n → Answers (check_legal m S a n k) l a n r l
+  answers : (p : Result (Unit {0}) AccessError) → check_legal m S a n k ≡ access_answered S p → r ≡ permit_of (access_answered S p) a n → Answers (check_legal m S a n k) l a n r l
   answers p e is = answers_as (check_legal m S a n k) (access_answered S p) l a n r l e (is, refl, refl)
 
   pub legal_supervisor : (get_or l 2 0 % 2 ≡ 1 → ⊥) → r ≡ bare_permit a n → Answers (check_legal m S a n k) l a n r l
-  legal_supervisor h is = answers Allowed (laws.by_supervisor m S a n k (supervisor l h)) (is ∙ sym (unmoved (not_user l h)))
+  legal_supervisor h is = answers (Ok tt) (laws.by_supervisor m S a n k (supervisor l h)) (is ∙ sym (unmoved (not_user l h)))
 
   module _ (h : get_or l 2 0 % 2 ≡ 1) where
     user : S.user ≡ true
     user = user_at l true (eq-eqb (get_or l 2 0 % 2) 1 h)
 
     by_grant : (ok : Bool) → ok ≡ all_allowed S.regions k (addresses n a) → translating_of S ≡ false
-        → r ≡ cond ok (bare_permit a n) (permit (Denied (ProtectionFault k)) 0 0 0) → Answers (check_legal m S a n k) l a n r l
+        → r ≡ cond ok (bare_permit a n) (permit (Err (Denied (ProtectionFault k))) 0 0 0) → Answers (check_legal m S a n k) l a n r l
     by_grant true e t is =
-        answers Allowed (laws.by_regions_lem m S a n k t ∙ rw (sym (by_regions_lem S a n k true user e))) (is ∙ sym (unmoved t))
+        answers (Ok tt) (laws.by_regions_lem m S a n k t ∙ rw (sym (by_regions_lem S a n k true user e))) (is ∙ sym (unmoved t))
     by_grant false e t is =
-        answers (Denied (ProtectionFault k)) (laws.by_regions_lem m S a n k t ∙ rw (sym (by_regions_lem S a n k false user e))) is
+        answers (Err (Denied (ProtectionFault k))) (laws.by_regions_lem m S a n k t ∙ rw (sym (by_regions_lem S a n k false user e))) is
 
     pub legal_regions : (get_or l vm_from 0 % 2 ≡ 1 → ⊥) → r ≡ regions_permit (regions_at (part regions_from 24 l)) a n k → Answers (check_legal m S a n k) l a n r l
     legal_regions g is =
@@ -201,8 +199,8 @@ few_bytes Read n h = data_small n true (sym h) refl
 few_bytes Write n h = data_small n true (sym h) refl
 few_bytes Fetch n h = data_small n true (rw (h, or-true (eqb n 1))) refl
 
-pub legal_small : (m : Memory) (n : ℕ) (k : Access) (legal ok : Bool) → legal ≡ legal_size k n → ok ≡ opens (access_gate m legal) → ok ≡ true → (0 < n) × (n ≤ 4)
-legal_small m n k legal ok is e h = let t = sym is ∙ (access_open m legal (is_open m legal (sym e ∙ h))).1 in (some_bytes k n t, few_bytes k n t)
+pub legal_small : (m : Memory) (n : ℕ) (k : Access) (legal : Bool) → legal ≡ legal_size k n → (u : Unit {0}) → Ok u ≡ access_gate m legal → (0 < n) × (n ≤ 4)
+legal_small m n k legal is u e = let t = sym is ∙ (access_open m legal (sym e)).1 in (some_bytes k n t, few_bytes k n t)
 
 module _ (m : Memory) (l : List ℕ) (a n : ℕ) (k : Access) (r : Permit) where
   pub no_state : (length l ≡ system_words → ⊥) → r ≡ refused_as Map → Permits m l a n k r l
@@ -214,57 +212,58 @@ module _ (m : Memory) (l : List ℕ) (a n : ℕ) (k : Access) (r : Permit) where
       over_all system_words l r (refused_as Map) l' (Answers (check_access m (sys_at l) a n k) l a n r l') long same
       (answers_as (check_access m (sys_at l) a n k) c l a n r l' e w)
 
-  module _ (long : length l ≡ system_words) (legal : Bool) (size : legal ≡ legal_size k n) (ok : Bool) (is : ok ≡ opens (access_gate m legal)) where
-    pub permit_refused : (f : Refusal) → ok ≡ false → Shut f ≡ access_gate m false → r ≡ refused_as f → Permits m l a n k r l
-    permit_refused f h q e =
-        permits_as (access_answered (sys_at l) (Refused f)) l long refl
-        (laws.check_refused m (sys_at l) a n k f (ap (access_gate m) (sym size) ∙ is_shut m legal f (sym is ∙ h) q)) (e, refl, refl)
+  module _ (long : length l ≡ system_words) (legal : Bool) (size : legal ≡ legal_size k n) where
+    pub permit_refused : (f : Refusal) → Err f ≡ access_gate m legal → r ≡ refused_as f → Permits m l a n k r l
+    permit_refused f h e =
+        permits_as (access_answered (sys_at l) (Err (Refused f))) l long refl
+        (laws.check_refused m (sys_at l) a n k f (ap (access_gate m) (sym size) ∙ sym h)) (e, refl, refl)
 
-    pub permit_good : (l' : List ℕ) → ok ≡ true → length l' ≡ length l → Answers (check_legal m (sys_at l) a n k) l a n r l' → Permits m l a n k r l'
-    permit_good l' h same w =
+    pub permit_good : (l' : List ℕ) → (u : Unit {0}) → Ok u ≡ access_gate m legal → length l' ≡ length l → Answers (check_legal m (sys_at l) a n k) l a n r l' → Permits m l a n k r l'
+    permit_good l' u h same w =
         permits_as (check_legal m (sys_at l) a n k) l' long same
-        (laws.check_good m (sys_at l) a n k (ap (access_gate m) (sym size) ∙ is_open m legal (sym is ∙ h))) w
+        (laws.check_good m (sys_at l) a n k (ap (access_gate m) (sym size) ∙ sym h)) w
+
+-- what is permitted over words is over the same words
+pub permits_over : (m : Memory) (l o : List ℕ) (a n : ℕ) (k : Access) (r : Permit) (l' : List ℕ) → l ≡ o → Permits m l a n k r l' → Permits m o a n k r l'
+permits_over m l o a n k r l' e w = rw (← e) w
 
 -- ---- a word that is granted at once
 
 -- the permit of an access inside its page, as a grant
-granted_as : (c : AccessChecked) (l : List ℕ) (a pa n : ℕ) (l' : List ℕ) → Answers c l a 4 (permit Allowed pa 0 n) l' → GrantedBy c l a (grant_at pa n) l'
+granted_as : (c : AccessChecked) (l : List ℕ) (a pa n : ℕ) (l' : List ℕ) → Answers c l a 4 (permit (Ok tt) pa 0 n) l' → GrantedBy c l a (Some (grant_at pa n)) l'
 granted_as c l a pa n l' w =
-    let allowed : c.permission ≡ Allowed = sym (ap (λ (p : Permit). p.permission) w.0) in
+    let allowed : c.permission ≡ (Ok tt) = sym (ap (λ (p : Permit). p.permission) w.0) in
     let place : pa ≡ physical_of c.sys a = rw allowed at (ap (λ (p : Permit). p.pa) w.0) in
     let reads : n ≡ c.reads = ap (λ (p : Permit). p.reads) w.0 in
     (rw (allowed, place, reads), w.1 ∙ rw allowed, w.2)
 
-denied_as : (c : AccessChecked) (l : List ℕ) (a : ℕ) (e : Exception) (l' : List ℕ) (r : Grant) → c.permission ≡ Denied e → r ≡ no_grant → sys_at l' ≡ sys_at l → reg_at l' ≡ reg_at l
+denied_as : (c : AccessChecked) (l : List ℕ) (a : ℕ) (e : Exception) (l' : List ℕ) (r : Option Grant) → c.permission ≡ Err (Denied e) → r ≡ None → sys_at l' ≡ sys_at l → reg_at l' ≡ reg_at l
     → GrantedBy c l a r l'
 denied_as c l a e l' r h is s g = (is ∙ rw h, s ∙ rw h, g)
 
-pub frame_granted : (g : PageGrant) (a pa : ℕ) (r : Grant) → g.granted ≡ true → pa ≡ joined_to g.ppn a → r ≡ grant_at pa g.reads → r ≡ grant_in g a
-frame_granted g a pa r h e is = is ∙ rw (h, e)
-
-module _ (m : Memory) (l : List ℕ) (a : ℕ) (k : Access) (r : Grant) where
+module _ (m : Memory) (l : List ℕ) (a : ℕ) (k : Access) (r : Option Grant) where
   asked : (l' : List ℕ) → at_once (sys_at l) a ≡ true → GrantedBy (check_legal m (sys_at l) a 4 k) l a r l' → GrantsWord m l a k r l'
   asked l' t w = (λ h. w, λ h. absurd_eq (cc))
 
-  pub not_asked : at_once (sys_at l) a ≡ false → r ≡ no_grant → GrantsWord m l a k r l
+  pub not_asked : at_once (sys_at l) a ≡ false → r ≡ None → GrantsWord m l a k r l
   not_asked t e = (λ h. absurd_eq (cc), λ h. (e, refl, refl))
 
-  pub grant_apart : 4092 < a % 4096 → r ≡ no_grant → GrantsWord m l a k r l
+  pub grant_apart : 4092 < a % 4096 → r ≡ None → GrantsWord m l a k r l
   grant_apart h e = not_asked (rw (lt-ltb 4092 (a % 4096) h)) e
 
   module _ (room : a % 4096 ≤ 4092) where
-    pub grant_bare : (get_or l 2 0 % 2 ≡ 1 → ⊥) → r ≡ grant_at a 0 → GrantsWord m l a k r l
+    pub grant_bare : (get_or l 2 0 % 2 ≡ 1 → ⊥) → r ≡ Some (grant_at a 0) → GrantsWord m l a k r l
     grant_bare h e =
         asked l (rw (le-ltb 4092 (a % 4096) room, supervisor l h))
-        (rw e (granted_as (check_legal m (sys_at l) a 4 k) l a a 0 l (legal_supervisor m l a 4 k (permit Allowed a 0 0) h (bare_in_page a 4 (omega arith)))))
+        (rw e (granted_as (check_legal m (sys_at l) a 4 k) l a a 0 l (legal_supervisor m l a 4 k (permit (Ok tt) a 0 0) h (bare_in_page a 4 (omega arith)))))
 
     module _ (h : get_or l 2 0 % 2 ≡ 1) where
-      pub grant_off : (get_or l vm_from 0 % 2 ≡ 1 → ⊥) → r ≡ no_grant → GrantsWord m l a k r l
+      pub grant_off : (get_or l vm_from 0 % 2 ≡ 1 → ⊥) → r ≡ None → GrantsWord m l a k r l
       grant_off g e =
           not_asked (rw (le-ltb 4092 (a % 4096) room, user_at l true (eq-eqb (get_or l 2 0 % 2) 1 h), enabled_at l false (ne_eqb (get_or l vm_from 0 % 2) 1 g))) e
 
       module _ (new : List ℕ) (long : length l ≡ system_words) (g : get_or l vm_from 0 % 2 ≡ 1) (kept : length new ≡ length (part vm_from 69 l)) (small : a < 2 ^ 32)
-          (f : PageGrant) (w : Over 69 (part vm_from 69 l) new f pages.no_grant (GrantsPage m k a (vm_at (part vm_from 69 l)) f (vm_at new))) where
+          (f : Option PageGrant) (w : Over 69 (part vm_from 69 l) new f None (GrantsPage m k a (vm_at (part vm_from 69 l)) f (vm_at new))) where
         abbrev v : Vm
         v = vm_at (part vm_from 69 l)
 
@@ -283,27 +282,26 @@ module _ (m : Memory) (l : List ℕ) (a : ℕ) (k : Access) (r : Grant) where
         here : at_once (sys_at l) a ≡ true
         here = rw (le-ltb 4092 (a % 4096) room, user_at l true (eq-eqb (get_or l 2 0 % 2) 1 h), enabled_at l true (eq-eqb (get_or l vm_from 0 % 2) 1 g))
 
-        opened : f.granted ≡ true → GrantedBy (check_legal m (sys_at l) a 4 k) l a (grant_at (joined_to f.ppn a) f.reads) l'
-        opened t =
-            let o = grant_open c a v f (vm_at new) page t in
-            let pa : ℕ = joined_to f.ppn a in
-            let permits : permit Allowed pa 0 f.reads ≡ pages_permit c a 4 =
-            in_page (λ (x : ℕ). joined_to (frame_of c.vm x) x) a 4 f.reads pa (omega arith) (rw o.1) ∙ rw (o.0, o.2) in
-            granted_as (check_legal m (sys_at l) a 4 k) l a pa f.reads l'
-            (legal_translated m l a 4 k (permit Allowed pa 0 f.reads) h new long g kept (permits ∙ ap (λ (d : Checked). pages_permit d a 4) (sym alone), o.3 ∙ ap (λ (d : Checked). d.vm) (sym alone)))
+        opened : (p : PageGrant) → f ≡ Some p → GrantedBy (check_legal m (sys_at l) a 4 k) l a (Some (grant_at (joined_to p.ppn a) p.reads)) l'
+        opened p t =
+            let o = grant_open c a v f p (vm_at new) page t in
+            let pa : ℕ = joined_to p.ppn a in
+            let permits : permit (Ok tt) pa 0 p.reads ≡ pages_permit c a 4 =
+            in_page (λ (x : ℕ). joined_to (frame_of c.vm x) x) a 4 p.reads pa (omega arith) (rw o.1) ∙ rw (o.0, o.2) in
+            granted_as (check_legal m (sys_at l) a 4 k) l a pa p.reads l'
+            (legal_translated m l a 4 k (permit (Ok tt) pa 0 p.reads) h new long g kept (permits ∙ ap (λ (d : Checked). pages_permit d a 4) (sym alone), o.3 ∙ ap (λ (d : Checked). d.vm) (sym alone)))
 
-        shut : f.granted ≡ false → GrantedBy (check_legal m (sys_at l) a 4 k) l a no_grant l'
+        shut : f ≡ None → GrantedBy (check_legal m (sys_at l) a 4 k) l a None l'
         shut t =
             let s = grant_none c a v f (vm_at new) page t in
             let same : length new ≡ 69 = kept ∙ part_length l vm_from 69 (omega arith) in
             let legal : check_legal m (sys_at l) a 4 k ≡ from_pages (sys_at l) c =
             laws.by_pages m (sys_at l) a 4 k (translating l h g) ∙ ap (λ (x : Vm). from_pages (sys_at l) (check_each m k x (pages_of a 4))) (vm_is l) ∙ ap (from_pages (sys_at l)) alone in
-            denied_as (check_legal m (sys_at l) a 4 k) l a s.0.0 l' no_grant (rw legal (ap permission_of s.0.1)) refl
+            denied_as (check_legal m (sys_at l) a 4 k) l a s.0.0 l' None (rw legal (ap permission_of s.0.1)) refl
             (sys_vm l new long same ∙ ap (with_vm (sys_at l)) (s.1 ∙ sym (vm_is l))) (reg_vm l new long same)
 
-        granted_by : (b : Bool) → f.granted ≡ b → r ≡ cond b (grant_at (joined_to f.ppn a) f.reads) no_grant → GrantedBy (check_legal m (sys_at l) a 4 k) l a r l'
-        granted_by true t e = rw e (opened t)
-        granted_by false t e = rw e (shut t)
+        pub grant_translated : (p : PageGrant) (pa : ℕ) → f ≡ Some p → pa ≡ joined_to p.ppn a → r ≡ Some (grant_at pa p.reads) → GrantsWord m l a k r l'
+        grant_translated p pa t at e = asked l' here (rw (e, at) (opened p t))
 
-        pub grant_translated : r ≡ grant_in f a → GrantsWord m l a k r l'
-        grant_translated e = asked l' here (granted_by f.granted refl e)
+        pub grant_shut : f ≡ None → r ≡ None → GrantsWord m l a k r l'
+        grant_shut t e = asked l' here (rw e (shut t))

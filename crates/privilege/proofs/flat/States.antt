@@ -1,6 +1,6 @@
 -- The whole state on its words: where a byte is, reset, and a state written and read. Assumes nothing.
-use Rattle.std.proofs.Common.{◌≡◌, ℕ, ◌+◌, ◌%◌, ◌<◌, ◌≤◌, Bool, true, false, cond, eqb, List, [], ◌∷◌, length, get_or, set, replicate, sym, refl, ap, ◌∙◌, arith, length-set, eq-eqb, ne_eqb}
-use lib.Seq.{set_out}
+use Rattle.std.proofs.Common.{◌≡◌, ℕ, ◌+◌, ◌%◌, ◌<◌, ◌≤◌, Bool, true, false, eqb, List, [], ◌∷◌, length, get_or, set, replicate, sym, refl, ap, ◌∙◌, arith, length-set, eq-eqb, ne_eqb}
+use Rattle.std.proofs.Math.Seq.{set_out}
 use Rattle.layout.specs.Words.{part, put, Over, Reads, part_length, part_get, put_length, over_all, reads_none, reads_all}
 use Rattle.layout.specs.Records.{records_of}
 use Rattle.mmu.specs.Flat.{entry_at, tlb_at, vm_at}
@@ -17,7 +17,9 @@ use Rattle.privilege.specs.Transfer.Laws.{physical_on, physical_off}
 use Rattle.privilege.specs.declared.region.Region.{Region}
 use Rattle.privilege.specs.declared.state.InstructionMode.{InstructionMode}
 use Rattle.privilege.specs.declared.state.SystemState.{SystemState}
+use mir.Val.{bool_byte}
 use Rattle.privilege.proofs.Checks.{on, off}
+use Rattle.privilege.proofs.Numbers.{bool_number}
 use Rattle.privilege.proofs.flat.Banks.{user_at, mode_back}
 
 -- ---- words of another number
@@ -77,13 +79,11 @@ module _ (l : List ℕ) (i v : ℕ) (long : length l ≡ system_words) where
 abbrev fresh : List ℕ
 fresh = 1 ∷ 1 ∷ replicate 101 0
 
-pub reset_words : (l new : List ℕ) → length l ≡ system_words → new ≡ cond (eqb (length (part 0 103 l)) (length fresh)) fresh (part 0 103 l)
+pub reset_words : (l new : List ℕ) → length l ≡ system_words → new ≡ fresh
     → Comes l (put 0 103 l new) new_state (reg_at l)
 unfolding sys_at reg_at regions_at vm_at tlb_at entry_at records_of no_regions no_entries
 reset_words l new long e =
-    let n : length (part 0 103 l) ≡ 103 = part_length l 0 103 (omega arith) in
-    let q : new ≡ fresh = e ∙ rw (eq-eqb (length (part 0 103 l)) 103 n) in
-    rw q (over_all system_words l (tt {0}) (tt {0}) (put 0 103 l fresh) _ long (put_length l fresh 0 103 (omega arith) refl) (refl, refl))
+    rw e (over_all system_words l (tt {0}) (tt {0}) (put 0 103 l fresh) _ long (put_length l fresh 0 103 (omega arith) refl) (refl, refl))
 
 -- ---- a state written
 
@@ -102,12 +102,11 @@ scalars l s a b c d e =
 abbrev over : SystemState → SystemState → SystemState
 over s t = with_rest s s.epc s.cause s.other_bank t.regions t.vm
 
-pub put_status_words : (l : List ℕ) (s : SystemState) (a b c d e : ℕ) (short : Bool) → length l ≡ system_words → length s.other_bank ≡ 3
-    → a ≡ bit_if s.ie 1 → b ≡ bit_if s.pie 1 → c ≡ bit_if s.user 1 → d ≡ bit_if s.pu 1 → short ≡ is_short s.psm → e ≡ bit_if short 1
-    → sys_at (scalars l s a b c d e) ≡ over s (sys_at l)
+pub put_status_words : (l : List ℕ) (s : SystemState) (short : Bool) → length l ≡ system_words → length s.other_bank ≡ 3 → short ≡ is_short s.psm
+    → sys_at (scalars l s (bool_byte s.ie) (bool_byte s.pie) (bool_byte s.user) (bool_byte s.pu) (bool_byte short)) ≡ over s (sys_at l)
 unfolding sys_at
-put_status_words l s a b c d e short n bank ea eb ec ed es ee =
-    rw (ea, eb, ec, ed, ee, es)
+put_status_words l s short n bank es =
+    rw (bool_number s.ie, bool_number s.pie, bool_number s.user, bool_number s.pu, bool_number short, es)
     (ten
     (λ (l : List ℕ). sys_at (scalars l s (bit_if s.ie 1) (bit_if s.pie 1) (bit_if s.user 1) (bit_if s.pu 1) (bit_if (is_short s.psm) 1)) ≡ over s (sys_at l))
     (λ q r t u v w x y z k m. rw (bit_on s.ie, bit_on s.pie, bit_on s.user, bit_on s.pu, mode_back s.psm, three s.other_bank bank))
@@ -127,10 +126,9 @@ pub put_state_words : (l m l' : List ℕ) (s : SystemState) → sys_at m ≡ ove
 put_state_words l m l' s e g = g ∙ rw e
 
 pub pack_words : (l m c : List ℕ) (s : SystemState) (reg : List ℕ) → length l ≡ system_words → length m ≡ length l → sys_at m ≡ s → length reg ≡ 32
-    → c ≡ cond (eqb (length (part reg_from 32 m)) (length reg)) reg (part reg_from 32 m) → Comes l (put reg_from 32 m c) s reg
-pack_words l m c s reg long same e n ec =
+    → c ≡ reg → Comes l (put reg_from 32 m c) s reg
+pack_words l m c s reg long same e n is =
     let nm : length m ≡ system_words = same ∙ long in
-    let is : c ≡ reg = ec ∙ rw (eq-eqb (length (part reg_from 32 m)) (length reg) (part_length m reg_from 32 (omega arith) ∙ sym n)) in
     let nc : length c ≡ 32 = ap length is ∙ n in
     over_all system_words l (tt {0}) (tt {0}) (put reg_from 32 m c) _ long (put_length m c reg_from 32 (omega arith) nc ∙ same) (sys_regs m c nm nc ∙ e, reg_regs m c nm nc ∙ is)
 
@@ -160,10 +158,10 @@ module _ (l : List ℕ) where
   pub registers_short : (length l ≡ system_words → ⊥) → Reads system_words l (replicate 32 0) (replicate 32 0) (reg_at l)
   registers_short h = reads_none system_words l (replicate 32 0) (replicate 32 0) _ h refl
 
-  pub registers_read : (new : List ℕ) → length l ≡ system_words → new ≡ cond (eqb 32 (length (part reg_from 32 l))) (part reg_from 32 l) (replicate 32 0)
+  pub registers_read : (new : List ℕ) → length l ≡ system_words → new ≡ part reg_from 32 l
       → Reads system_words l new (replicate 32 0) (reg_at l)
   unfolding reg_at
   registers_read new long e =
-      reads_all system_words l new _ _ long (e ∙ rw (eq-eqb 32 (length (part reg_from 32 l)) (sym (part_length l reg_from 32 (omega arith)))))
+      reads_all system_words l new _ _ long e
 
 pub ruleset wholes = (kept_short, no_register, register_set, reset_words, put_status_words, put_tables_words, put_state_words, pack_words, unpack_short, unpack_words, registers_short, registers_read)

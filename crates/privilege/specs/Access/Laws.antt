@@ -10,18 +10,19 @@
 --   refused_nothing                         == a refusal has changed nothing and read nothing
 --   check_number                            == a check is refused with 2 or 1 alone
 --   legal_few, allowed_size                 == a legal size, and so an allowed access's, is between 1 and 4
-use Rattle.std.specs.Prelude.{◌≡◌, ℕ, ◌<◌, ◌≤◌, Bool, true, false, cond, ◌||◌, ◌==◌, ◌≢◌, refl}
+use Rattle.std.specs.Prelude.{◌≡◌, ℕ, ◌<◌, ◌≤◌, Bool, true, false, cond, ◌||◌, ◌==◌, ◌≢◌, refl, Result, Ok, Err}
 use Rattle.std.proofs.Math.Path.{ap}
 use Rattle.std.proofs.Common.{◌∙◌, arith, eqb-true}
 use Rattle.common.specs.Cases.{absurd_eq, cond_holds}
 use Rattle.common.specs.Refusal.{refusal_number}
 use Rattle.common.specs.declared.Refusal.{Refusal}
-use Rattle.memory.specs.Gate.{Open, Refused as Shut, map_good, access_gate}
+use Rattle.memory.specs.Gate.{map_good, access_gate}
 use Rattle.memory.specs.Gate.Laws.{map_open, size_open, gated_holds, gated_case, access_open, shut_number}
 use Rattle.memory.specs.Memory.{Memory}
 use Rattle.mmu.specs.Check.{check_each, pages_of}
-use Rattle.mmu.specs.declared.check.Verdict.{Verdict}
-use Rattle.mmu.specs.declared.check.Verdict.TheVariants as verdict
+use Rattle.mmu.specs.declared.exception.Exception.{Exception}
+use Rattle.privilege.specs.declared.check.AccessError.TheVariants.{Denied, Refused}
+use Rattle.privilege.specs.declared.check.AccessError.{AccessError}
 use Rattle.mmu.specs.declared.exception.Access.{Access}
 use Rattle.mmu.specs.declared.exception.Access.TheVariants.{Read, Write, Fetch}
 use Rattle.mmu.specs.declared.exception.Exception.TheVariants.{ProtectionFault}
@@ -30,8 +31,6 @@ use Rattle.mmu.specs.Check.Pages.{VmKept, kept_same, pages_keep}
 use Rattle.privilege.specs.Addresses.{addresses}
 use Rattle.privilege.specs.Region.{all_allowed}
 use Rattle.privilege.specs.State.{with_vm}
-use Rattle.privilege.specs.declared.check.Permission.{Permission}
-use Rattle.privilege.specs.declared.check.Permission.TheVariants.{Allowed, Denied, Refused}
 use Rattle.privilege.specs.declared.check.AccessChecked.{AccessChecked}
 use Rattle.privilege.specs.declared.state.SystemState.{SystemState}
 
@@ -60,11 +59,11 @@ legal_few Fetch n h = fetch_few n (n == 2) (n == 4) refl refl h
 module _ (m : Memory) (s : SystemState) (a n : ℕ) (k : Access) where
   -- ---- the refusals
 
-  pub check_refused : (r : Refusal) → access_gate m (legal_size k n) ≡ Shut r → check_access m s a n k ≡ access_answered s (Refused r)
+  pub check_refused : (r : Refusal) → access_gate m (legal_size k n) ≡ Err r → check_access m s a n k ≡ access_answered s (Err (Refused r))
   unfolding check_access
   check_refused r h = rw h
 
-  pub check_good : access_gate m (legal_size k n) ≡ Open → check_access m s a n k ≡ check_legal m s a n k
+  pub check_good : access_gate m (legal_size k n) ≡ Ok tt → check_access m s a n k ≡ check_legal m s a n k
   unfolding check_access
   check_good h = rw h
 
@@ -78,25 +77,25 @@ module _ (m : Memory) (s : SystemState) (a n : ℕ) (k : Access) where
   unfolding check_legal
   by_regions_lem h = rw h
 
-  pub by_supervisor : s.user ≡ false → check_legal m s a n k ≡ access_answered s Allowed
+  pub by_supervisor : s.user ≡ false → check_legal m s a n k ≡ access_answered s (Ok tt)
   unfolding check_legal translating_of allows_of
   by_supervisor h = rw h
 
   pub regions_decide : map_good m ≡ true → legal_size k n ≡ true → s.user ≡ true → s.vm.enabled ≡ false
-      → check_access m s a n k ≡ access_answered s (cond (all_allowed s.regions k (addresses n a)) Allowed (Denied (ProtectionFault k)))
+      → check_access m s a n k ≡ access_answered s (cond (all_allowed s.regions k (addresses n a)) (Ok tt) (Err (Denied (ProtectionFault k))))
   unfolding translating_of allows_of
   regions_decide good legal user off = check_good (size_open m (legal_size k n) (map_open m good) legal) ∙ by_regions_lem (rw (user, off)) ∙ rw user
 
-  not_refused : (v : Verdict) (r : Refusal) → permission_of v ≢ Refused r
-  not_refused verdict.Allowed r e = absurd_eq (cc)
-  not_refused (verdict.Denied x) r e = absurd_eq (cc)
+  not_refused : (v : Result (Unit {0}) Exception) (r : Refusal) → permission_of v ≢ Err (Refused r)
+  not_refused (Ok tt) r e = absurd_eq (cc)
+  not_refused (Err x) r e = absurd_eq (cc)
 
-  pub legal_answers : (r : Refusal) → (check_legal m s a n k).permission ≢ Refused r
+  pub legal_answers : (r : Refusal) → (check_legal m s a n k).permission ≢ Err (Refused r)
   unfolding check_legal
   legal_answers r =
-      cond_holds (λ (c : AccessChecked). c.permission ≢ Refused r) (translating_of s)
+      cond_holds (λ (c : AccessChecked). c.permission ≢ Err (Refused r)) (translating_of s)
       (not_refused (check_each m k s.vm (pages_of a n)).verdict r)
-      (cond_holds (λ (p : Permission). p ≢ Refused r) (allows_of s a n k) (λ e. absurd_eq (cc)) (λ e. absurd_eq (cc)))
+      (cond_holds (λ (p : Result (Unit {0}) AccessError). p ≢ Err (Refused r)) (allows_of s a n k) (λ e. absurd_eq (cc)) (λ e. absurd_eq (cc)))
 
   -- ---- what is left
 
@@ -114,20 +113,20 @@ module _ (m : Memory) (s : SystemState) (a n : ℕ) (k : Access) where
   pub check_user : (check_access m s a n k).sys.user ≡ s.user
   check_user = ap (λ (t : SystemState). t.user) check_keeps.else
 
-  pub refused_nothing : (r : Refusal) → (check_access m s a n k).permission ≡ Refused r → check_access m s a n k ≡ access_answered s (Refused r)
+  pub refused_nothing : (r : Refusal) → (check_access m s a n k).permission ≡ Err (Refused r) → check_access m s a n k ≡ access_answered s (Err (Refused r))
   unfolding check_access
   refused_nothing r =
-      gated_holds (λ (c : AccessChecked). c.permission ≡ Refused r → c ≡ access_answered s (Refused r)) (access_gate m (legal_size k n))
+      gated_holds (λ (c : AccessChecked). c.permission ≡ Err (Refused r) → c ≡ access_answered s (Err (Refused r))) (access_gate m (legal_size k n))
       (λ e. absurd (legal_answers r e)) (λ q e. ap (access_answered s) e)
 
-  pub check_number : (r : Refusal) → (check_access m s a n k).permission ≡ Refused r → refusal_number r < 3
+  pub check_number : (r : Refusal) → (check_access m s a n k).permission ≡ Err (Refused r) → refusal_number r < 3
   unfolding check_access
   check_number r =
-      gated_case (λ (c : AccessChecked). c.permission ≡ Refused r → refusal_number r < 3) (access_gate m (legal_size k n))
+      gated_case (λ (c : AccessChecked). c.permission ≡ Err (Refused r) → refusal_number r < 3) (access_gate m (legal_size k n))
       (λ g e. absurd (legal_answers r e)) (λ q g e. let is : q ≡ r = cc in rw is at (shut_number m (legal_size k n) q g))
 
-  pub allowed_size : (check_access m s a n k).permission ≡ Allowed → (0 < n) × (n ≤ 4)
+  pub allowed_size : (check_access m s a n k).permission ≡ Ok tt → (0 < n) × (n ≤ 4)
   unfolding check_access
   allowed_size =
-      gated_case (λ (c : AccessChecked). c.permission ≡ Allowed → (0 < n) × (n ≤ 4)) (access_gate m (legal_size k n))
+      gated_case (λ (c : AccessChecked). c.permission ≡ Ok tt → (0 < n) × (n ≤ 4)) (access_gate m (legal_size k n))
       (λ g e. legal_few k n (access_open m (legal_size k n) g).1) (λ r g e. absurd_eq (cc))

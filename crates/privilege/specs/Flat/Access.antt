@@ -11,13 +11,12 @@
 --   Translated m l a n k r l' == the check of a translated access takes translation's words l to l' and answers r
 --   Answers C l a n r l'      == the check C takes the words l to l' and answers r; R0 to R31 stay
 --   Permits m l a n k r l'    == what `check_access` promises over any words
---   grant_at p n, no_grant    == the answers of `grant_word`: the word is at p, after n table words read; or it is not granted
+--   grant_at p n              == the grant of `grant_word`: the word is at p, after n table words read
 --   permit_for g              == the permit of a word that is granted
---   grant_in g a              == the grant of a's page, as one of the word at a
 --   at_once s a               == the words that it is asked for: inside their page, a supervisor's or translated
 --   GrantedBy c l a r l'      == the check c as a grant: where it allows; elsewhere there is none, and the state stays
 --   Grants m l a k r l'       == what `grant_word` promises over any words
-use Rattle.std.specs.Prelude.{◌≡◌, ℕ, ◌%◌, Bool, true, false, cond, not, ◌&&◌, ◌||◌, List, nat_lt}
+use Rattle.std.specs.Prelude.{◌≡◌, ℕ, ◌%◌, Bool, true, false, cond, not, ◌&&◌, ◌||◌, List, nat_lt, Option, Some, None, Result, Ok, Err}
 use Rattle.common.specs.declared.Refusal.{Refusal}
 use Rattle.common.specs.declared.Refusal.TheVariants.{Map}
 use Rattle.layout.specs.Words.{Over}
@@ -28,7 +27,6 @@ use Rattle.mmu.specs.Vm.{frame_of}
 use Rattle.mmu.specs.declared.check.Checked.{Checked}
 use Rattle.mmu.specs.declared.exception.Access.{Access}
 use Rattle.mmu.specs.declared.exception.Exception.TheVariants.{ProtectionFault}
-use Rattle.mmu.specs.declared.flat.PageGrant.{PageGrant}
 use Rattle.privilege.specs.Access.{permission_of, check_legal, check_access}
 use Rattle.privilege.specs.Addresses.{addresses}
 use Rattle.privilege.specs.Flat.{system_words, sys_at, reg_at}
@@ -36,24 +34,23 @@ use Rattle.privilege.specs.Region.{all_allowed}
 use Rattle.privilege.specs.Rows.{room_of, next_page}
 use Rattle.privilege.specs.Transfer.{joined_to, physical_of}
 use Rattle.privilege.specs.declared.check.AccessChecked.{AccessChecked}
-use Rattle.privilege.specs.declared.check.Permission.{Permission}
-use Rattle.privilege.specs.declared.check.Permission.TheVariants.{Allowed, Denied, Refused}
+use Rattle.privilege.specs.declared.check.AccessError.TheVariants.{Denied, Refused}
+use Rattle.privilege.specs.declared.check.AccessError.{AccessError}
 use Rattle.privilege.specs.declared.flat.access.Grant.{Grant}
 use Rattle.privilege.specs.declared.flat.access.Permit.{Permit}
 use Rattle.privilege.specs.declared.region.Region.{Region}
 use Rattle.privilege.specs.declared.state.SystemState.{SystemState}
 pub mod Laws
 
-abbrev pub if_allowed : Permission → ℕ → ℕ
-if_allowed Allowed x = x
-if_allowed (Denied e) x = 0
-if_allowed (Refused r) x = 0
+abbrev pub if_allowed : Result (Unit {0}) AccessError → ℕ → ℕ
+if_allowed (Ok tt) x = x
+if_allowed (Err e) x = 0
 
 -- what is said of the second page is 0 where there is none
 abbrev pub if_apart : ℕ → ℕ → ℕ → ℕ
 if_apart a n x = cond (nat_lt (room_of a) n) x 0
 
-abbrev pub permit_at : Permission → (ℕ → ℕ) → ℕ → ℕ → ℕ → Permit
+abbrev pub permit_at : Result (Unit {0}) AccessError → (ℕ → ℕ) → ℕ → ℕ → ℕ → Permit
 permit_at p at a n reads =
     record { permission = p; pa = if_allowed p (at a); pb = if_allowed p (if_apart a n (at (next_page a))); reads = reads }
 
@@ -64,13 +61,13 @@ abbrev pub pages_permit : Checked → ℕ → ℕ → Permit
 pages_permit d a n = permit_at (permission_of d.verdict) (λ (x : ℕ). joined_to (frame_of d.vm x) x) a n d.reads
 
 abbrev pub bare_permit : ℕ → ℕ → Permit
-bare_permit a n = permit_at Allowed (λ (x : ℕ). x) a n 0
+bare_permit a n = permit_at (Ok tt) (λ (x : ℕ). x) a n 0
 
 abbrev pub regions_permit : List Region → ℕ → ℕ → Access → Permit
-regions_permit rs a n k = cond (all_allowed rs k (addresses n a)) (bare_permit a n) (record { permission = Denied (ProtectionFault k); pa = 0; pb = 0; reads = 0 })
+regions_permit rs a n k = cond (all_allowed rs k (addresses n a)) (bare_permit a n) (record { permission = Err (Denied (ProtectionFault k)); pa = 0; pb = 0; reads = 0 })
 
 abbrev pub refused_as : Refusal → Permit
-refused_as r = record { permission = Refused r; pa = 0; pb = 0; reads = 0 }
+refused_as r = record { permission = Err (Refused r); pa = 0; pb = 0; reads = 0 }
 
 abbrev pub Translated : Memory → List ℕ → ℕ → ℕ → Access → Permit → List ℕ → Type 0
 Translated m l a n k r l' =
@@ -85,29 +82,21 @@ Permits m l a n k r l' = Over system_words l l' r (refused_as Map) (Answers (che
 -- ---- a grant
 
 abbrev pub grant_at : ℕ → ℕ → Grant
-grant_at pa n = record { granted = true; pa = pa; reads = n }
-
-abbrev pub no_grant : Grant
-no_grant = record { granted = false; pa = 0; reads = 0 }
+grant_at pa n = record { pa = pa; reads = n }
 
 abbrev pub permit_for : Grant → Permit
-permit_for g = record { permission = Allowed; pa = g.pa; pb = 0; reads = g.reads }
+permit_for g = record { permission = Ok tt; pa = g.pa; pb = 0; reads = g.reads }
 
-abbrev pub grant_in : PageGrant → ℕ → Grant
-grant_in g a = cond g.granted (grant_at (joined_to g.ppn a) g.reads) no_grant
-
-abbrev pub grant_if : Permission → Grant → Grant
-grant_if Allowed g = g
-grant_if (Denied e) g = no_grant
-grant_if (Refused r) g = no_grant
+abbrev pub grant_if : Result (Unit {0}) AccessError → Grant → Option Grant
+grant_if (Ok tt) g = Some g
+grant_if (Err e) g = None
 
 -- the state that a check leaves where it allows, else the one before it
-abbrev pub left_if : Permission → SystemState → SystemState → SystemState
-left_if Allowed after before = after
-left_if (Denied e) after before = before
-left_if (Refused r) after before = before
+abbrev pub left_if : Result (Unit {0}) AccessError → SystemState → SystemState → SystemState
+left_if (Ok tt) after before = after
+left_if (Err e) after before = before
 
-abbrev pub GrantedBy : AccessChecked → List ℕ → ℕ → Grant → List ℕ → Type 0
+abbrev pub GrantedBy : AccessChecked → List ℕ → ℕ → Option Grant → List ℕ → Type 0
 GrantedBy c l a r l' =
     (r ≡ grant_if c.permission (grant_at (physical_of c.sys a) c.reads))
     × (sys_at l' ≡ left_if c.permission c.sys (sys_at l))
@@ -116,10 +105,10 @@ GrantedBy c l a r l' =
 abbrev pub at_once : SystemState → ℕ → Bool
 at_once s a = not (nat_lt 4092 (a % 4096)) && (not s.user || s.vm.enabled)
 
-abbrev pub GrantsWord : Memory → List ℕ → ℕ → Access → Grant → List ℕ → Type 0
+abbrev pub GrantsWord : Memory → List ℕ → ℕ → Access → Option Grant → List ℕ → Type 0
 GrantsWord m l a k r l' =
     (at_once (sys_at l) a ≡ true → GrantedBy (check_legal m (sys_at l) a 4 k) l a r l')
-    × (at_once (sys_at l) a ≡ false → (r ≡ no_grant) × (sys_at l' ≡ sys_at l) × (reg_at l' ≡ reg_at l))
+    × (at_once (sys_at l) a ≡ false → (r ≡ None) × (sys_at l' ≡ sys_at l) × (reg_at l' ≡ reg_at l))
 
-abbrev pub Grants : Memory → List ℕ → ℕ → Access → Grant → List ℕ → Type 0
-Grants m l a k r l' = Over system_words l l' r no_grant (GrantsWord m l a k r l')
+abbrev pub Grants : Memory → List ℕ → ℕ → Access → Option Grant → List ℕ → Type 0
+Grants m l a k r l' = Over system_words l l' r None (GrantsWord m l a k r l')

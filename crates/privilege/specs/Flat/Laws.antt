@@ -9,8 +9,7 @@
 --   sys_vm_set, reg_vm_set    == the state after one of translation's words is set
 use Rattle.std.specs.Prelude.{◌≡◌, ℕ, ◌+◌, ◌*◌, ◌<◌, ◌≤◌, List, [], ◌∷◌, ◌++◌, length, take, drop, set, slice_index, slice_index_or, slice_set}
 use Rattle.std.proofs.Math.Path.{refl, sym}
-use Rattle.std.proofs.Common.{◌∙◌, length-take-le, get_or-take}
-use native.Mathlib.Omega.{arith}
+use Rattle.std.proofs.Common.{◌∙◌, length-take-le, get_or-take, arith}
 use Rattle.std.proofs.Math.ListN.{get_or-append}
 use Rattle.std.proofs.Math.Seq.{set-set, get_or-set_other}
 use Rattle.layout.specs.Records.{records_of, records_length, records_get, records_set}

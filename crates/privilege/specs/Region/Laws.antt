@@ -5,10 +5,9 @@
 --   one_grants      == a region that grants an access's first byte and ends behind its last grants each of its bytes
 use Rattle.std.specs.Prelude.{◌≡◌, ℕ, zero, suc, ◌+◌, ◌/◌, ◌%◌, ◌^◌, ◌≤◌, true, false, ◌&&◌, List, [], ◌∷◌, nat_eq, nat_le, nat_lt, slice_index_or}
 use Rattle.std.proofs.Math.Path.{refl}
-use Rattle.std.proofs.Common.{sym, ◌∙◌}
+use Rattle.std.proofs.Common.{sym, ◌∙◌, arith}
 use Rattle.std.proofs.Math.Bool.{or-true}
-use native.Mathlib.Omega.{arith}
-use borrow.Author.Tests.{leb-true, lt-ltb, le-leb}
+use Rattle.std.proofs.lemmas.Bool.{leb-true, lt-ltb, le-leb}
 use Rattle.common.specs.Cases.{and_left, and_right}
 use Rattle.mmu.specs.Exception.{region_bit}
 use Rattle.mmu.specs.declared.exception.Access.{Access}

@@ -7,10 +7,11 @@
 --   rows_page                           == so the second page's address is not looked at
 --   physical_row                        == a page's bytes lie in a row
 --   rows_spots                          == an access's bytes are where its state's lookups say, if its pages are
-use Rattle.std.specs.Prelude.{◌≡◌, ℕ, zero, suc, ◌+◌, ◌-◌, ◌%◌, ◌^◌, ◌<◌, ◌≤◌, Bool, true, false, cond, [], ◌∷◌, nat_lt}
+--   spots_places                        == an access's spots, by the number of the byte
+use Rattle.std.specs.Prelude.{◌≡◌, ℕ, zero, suc, ◌+◌, ◌-◌, ◌%◌, ◌^◌, ◌<◌, ◌≤◌, Bool, true, false, cond, [], ◌∷◌, nat_lt, Ok, Err}
 use Rattle.std.proofs.Math.Path.{refl}
 use Rattle.std.proofs.Common.{sym, ap, ◌∙◌, arith}
-use borrow.Author.Tests.{lt-ltb, ltb-true, ltb-false}
+use Rattle.std.proofs.lemmas.Bool.{lt-ltb, ltb-true, ltb-false}
 use Rattle.common.specs.Bytes.{bytes_of}
 use Rattle.common.specs.Cases.{cond_case}
 use Rattle.memory.specs.Gate.{map_good}
@@ -19,21 +20,22 @@ use Rattle.memory.specs.Memory.{Memory, read_at, word_spots, all_writable, put_a
 use Rattle.memory.specs.Span.{half_spots}
 use Rattle.mmu.specs.Vm.{frame_of}
 use Rattle.privilege.specs.Access.{fetch_size, data_size, translating_of}
-use Rattle.privilege.specs.Rows.{room_of, next_page, place_of, places_from, rows_of}
+use Rattle.privilege.specs.Rows.{room_of, next_page, place_of, places_by, rows_of}
 use Rattle.privilege.specs.Transfer.{joined_to, physical_of, spots, read_of, load_at, store_at, memory_at}
 use Rattle.privilege.specs.Transfer.Laws.{spots_none, spots_next, frame_same}
 use Rattle.privilege.specs.declared.state.SystemState.{SystemState}
-use Rattle.privilege.specs.declared.transfer.DataWritten.TheVariants as written
+use Rattle.privilege.specs.declared.transfer.DataError.TheVariants as written
+
+module _ (at : ℕ → ℕ) (i : ℕ) where
+  pub places_none : places_by at i 0 ≡ []
+  unfolding places_by
+  places_none = refl
+
+  pub places_next : (n : ℕ) → places_by at i (suc n) ≡ at i ∷ places_by at (i + 1) n
+  unfolding places_by
+  places_next n = refl
 
 module _ (a pa pb : ℕ) where
-  pub places_none : (i : ℕ) → places_from a pa pb i 0 ≡ []
-  unfolding places_from
-  places_none i = refl
-
-  pub places_next : (i n : ℕ) → places_from a pa pb i (suc n) ≡ place_of a pa pb i ∷ places_from a pa pb (i + 1) n
-  unfolding places_from
-  places_next i n = refl
-
   pub place_first : (i : ℕ) → i < room_of a → place_of a pa pb i ≡ pa + i
   unfolding place_of
   place_first i h = rw (lt-ltb i (room_of a) h)
@@ -49,16 +51,16 @@ module _ (a pa pb : ℕ) where
   start = place_first 0 (omega arith) ∙ omega arith
 
   pub rows_word : 4 ≤ room_of a → rows_of a 4 pa pb ≡ word_spots pa
-  unfolding places_from
+  unfolding places_by
   rows_word h =
       rw (start, place_first 1 (omega arith), place_first 2 (omega arith), place_first 3 (omega arith))
 
   pub rows_half : 2 ≤ room_of a → rows_of a 2 pa pb ≡ half_spots pa
-  unfolding places_from
+  unfolding places_by
   rows_half h = rw (start, place_first 1 (omega arith))
 
   pub rows_byte : rows_of a 1 pa pb ≡ pa ∷ []
-  unfolding places_from
+  unfolding places_by
   rows_byte = rw start
 
 -- a word inside its page, over a good map
@@ -67,7 +69,7 @@ module _ (m : Memory) (a pa pb : ℕ) (good : map_good m ≡ true) (page : a % 4
   unfolding load_at data_size fetch_size
   word_loaded = rw (size_open m true (map_open m good) refl, rows_word a pa pb (omega arith))
 
-  pub word_stored : store_at m 4 (rows_of a 4 pa pb) ≡ cond (all_writable m (word_spots pa)) written.Done written.BusError
+  pub word_stored : store_at m 4 (rows_of a 4 pa pb) ≡ cond (all_writable m (word_spots pa)) (Ok tt) (Err written.BusError)
   unfolding store_at data_size fetch_size
   word_stored = rw (size_open m true (map_open m good) refl, rows_word a pa pb (omega arith))
 
@@ -76,8 +78,8 @@ module _ (m : Memory) (a pa pb : ℕ) (good : map_good m ≡ true) (page : a % 4
   word_left v = rw (size_open m true (map_open m good) refl, rows_word a pa pb (omega arith))
 
 module _ (a pa pb pb' : ℕ) where
-  places_page : (i n : ℕ) → i + n ≤ room_of a → places_from a pa pb i n ≡ places_from a pa pb' i n
-  unfolding places_from
+  places_page : (i n : ℕ) → i + n ≤ room_of a → places_by (place_of a pa pb) i n ≡ places_by (place_of a pa pb') i n
+  unfolding places_by
   places_page i zero h = refl
   places_page i (suc n) h =
       rw (place_first a pa pb i (omega arith), place_first a pa pb' i (omega arith), places_page (i + 1) n (omega arith))
@@ -96,6 +98,10 @@ physical_row s a i h =
         → cond t (joined_to (frame_of s.vm (a + i)) (a + i)) (a + i) ≡ cond t (joined_to (frame_of s.vm a) a) a + i
     by_mode true p q = rw (p, q) (omega arith)
     by_mode false p q = refl
+
+-- byte i's own lookup
+abbrev pub spot : SystemState → ℕ → ℕ → ℕ
+spot s a i = physical_of s ((a + i) % 2 ^ 32)
 
 module _ (s : SystemState) (a : ℕ) (small : a < 2 ^ 32) where
   in_first : (i : ℕ) → i < room_of a → (a + i) % 2 ^ 32 ≡ a + i
@@ -125,11 +131,18 @@ module _ (s : SystemState) (a : ℕ) (small : a < 2 ^ 32) where
           ap (physical_of s) (in_second i h g) ∙ physical_row s (next_page a) (i - room_of a) (in_row i g)
           ∙ sym (place_second a (physical_of s a) (physical_of s (next_page a)) i h)
 
-  places_are : (n i : ℕ) → i + n ≤ 4096 → places_from a (physical_of s a) (physical_of s (next_page a)) i n ≡ spots s ((a + i) % 2 ^ 32) n
-  places_are zero i h = places_none a (physical_of s a) (physical_of s (next_page a)) i ∙ sym (spots_none s ((a + i) % 2 ^ 32))
+  places_are : (n i : ℕ) → i + n ≤ 4096 → places_by here i n ≡ spots s ((a + i) % 2 ^ 32) n
+  places_are zero i h = places_none here i ∙ sym (spots_none s ((a + i) % 2 ^ 32))
   places_are (suc n) i h =
-      places_next a (physical_of s a) (physical_of s (next_page a)) i n
+      places_next here i n
       ∙ rw (← place_is i (omega arith), places_are n (i + 1) (omega arith), ← next_step i) (sym (spots_next s ((a + i) % 2 ^ 32) n))
 
   pub rows_spots : (n : ℕ) → n ≤ 4096 → rows_of a n (physical_of s a) (physical_of s (next_page a)) ≡ spots s a n
   rows_spots n h = places_are n 0 (omega arith) ∙ ap (λ (x : ℕ). spots s x n) (let e : (a + 0) % 2 ^ 32 ≡ a = omega arith in e)
+
+  from_spot : (n i : ℕ) → spots s ((a + i) % 2 ^ 32) n ≡ places_by (spot s a) i n
+  from_spot zero i = spots_none s ((a + i) % 2 ^ 32) ∙ sym (places_none (spot s a) i)
+  from_spot (suc n) i = spots_next s ((a + i) % 2 ^ 32) n ∙ rw (next_step i, from_spot n (i + 1)) (sym (places_next (spot s a) i n))
+
+  pub spots_places : (n : ℕ) → spots s a n ≡ places_by (spot s a) 0 n
+  spots_places n = let e : (a + 0) % 2 ^ 32 ≡ a = omega arith in rw e at (from_spot n 0)

@@ -10,30 +10,26 @@
 --   store_same                    == equal maps give a store equal answers
 --   store_map                     == a store leaves the map
 --   store_both, store_other       == a byte after a store: equal ones stay equal, and one that is at none of the addresses stays
-use Rattle.std.specs.Prelude.{◌≡◌, ℕ, zero, suc, ◌+◌, ◌/◌, ◌%◌, ◌^◌, ◌<◌, ◌≤◌, Bool, true, false, cond, ◌≢◌, List, [], ◌∷◌, length}
+use Rattle.std.specs.Prelude.{◌≡◌, ℕ, zero, suc, ◌+◌, ◌/◌, ◌%◌, ◌^◌, ◌<◌, ◌≤◌, Bool, true, false, cond, ◌≢◌, List, [], ◌∷◌, length, Option, Some, None, Result, Ok, Err}
 use Rattle.std.proofs.Math.Path.{refl}
 use Rattle.std.proofs.Common.{ap, ◌∙◌, arith}
 use Rattle.common.specs.Bytes.{bytes_of}
 use Rattle.common.specs.Cases.{absurd_eq, cond_holds}
 use Rattle.common.specs.Refusal.{refusal_number}
 use Rattle.common.specs.declared.Refusal.{Refusal}
-use Rattle.memory.specs.Gate.{Gate, Open, Refused, gated, access_gate}
+use Rattle.memory.specs.Gate.{Gate, gated, access_gate}
 use Rattle.memory.specs.Gate.Laws.{gated_holds, gated_case, access_same, shut_number}
 use Rattle.common.specs.Lists.{Each}
 use Rattle.memory.specs.Memory.{Memory, byte_at, read_at, word_spots, all_writable, put_at}
 use Rattle.memory.specs.Memory.Laws.{SameMap, same_map, read_same, all_writable_same, write_map, write_both, write_other}
-use Rattle.memory.specs.declared.Content.{Content}
-use Rattle.memory.specs.declared.Content.TheVariants as content
+use Rattle.privilege.specs.declared.transfer.DataError.TheVariants.{Refused}
+use Rattle.privilege.specs.declared.transfer.DataError.{DataError}
 use Rattle.mmu.specs.Vm.{frame_of}
 use Rattle.mmu.specs.declared.vm.Vm.{Vm}
 use Rattle.privilege.specs.Access.{data_size, translating_of}
 use Rattle.privilege.specs.Addresses.{addresses}
 use Rattle.privilege.specs.Transfer.{joined_to, physical_of, spots, read_of, load_at, store_at, memory_at}
 use Rattle.privilege.specs.declared.state.SystemState.{SystemState}
-use Rattle.privilege.specs.declared.transfer.DataRead.{DataRead}
-use Rattle.privilege.specs.declared.transfer.DataRead.TheVariants as read
-use Rattle.privilege.specs.declared.transfer.DataWritten.{DataWritten}
-use Rattle.privilege.specs.declared.transfer.DataWritten.TheVariants as written
 
 module _ (s : SystemState) (va : ℕ) where
   pub spots_none : spots s va 0 ≡ []
@@ -86,21 +82,21 @@ word_spots_lem s va h g =
 -- ---- what loads and stores are refused with
 
 module _ (m : Memory) (n : ℕ) (l : List ℕ) (r : Refusal) where
-  not_refused : (c : Content) → read_of c ≢ read.Refused r
-  not_refused (content.Value v) e = absurd_eq (cc)
-  not_refused content.Outside e = absurd_eq (cc)
+  not_refused : (c : Option ℕ) → read_of c ≢ Err (Refused r)
+  not_refused (Some v) e = absurd_eq (cc)
+  not_refused None e = absurd_eq (cc)
 
-  pub load_number : load_at m n l ≡ read.Refused r → refusal_number r < 3
+  pub load_number : load_at m n l ≡ Err (Refused r) → refusal_number r < 3
   unfolding load_at
   load_number =
-      gated_case (λ (d : DataRead). d ≡ read.Refused r → refusal_number r < 3) (access_gate m (data_size n))
+      gated_case (λ (d : Result ℕ DataError). d ≡ Err (Refused r) → refusal_number r < 3) (access_gate m (data_size n))
       (λ g e. absurd (not_refused (read_at m l) e)) (λ q g e. let is : q ≡ r = cc in rw is at (shut_number m (data_size n) q g))
 
-  pub store_number : store_at m n l ≡ written.Refused r → refusal_number r < 3
+  pub store_number : store_at m n l ≡ Err (Refused r) → refusal_number r < 3
   unfolding store_at
   store_number =
-      gated_case (λ (d : DataWritten). d ≡ written.Refused r → refusal_number r < 3) (access_gate m (data_size n))
-      (λ g. cond_holds (λ (d : DataWritten). d ≡ written.Refused r → refusal_number r < 3) (all_writable m l) (λ e. absurd_eq (cc)) (λ e. absurd_eq (cc)))
+      gated_case (λ (d : Result (Unit {0}) DataError). d ≡ Err (Refused r) → refusal_number r < 3) (access_gate m (data_size n))
+      (λ g. cond_holds (λ (d : Result (Unit {0}) DataError). d ≡ Err (Refused r) → refusal_number r < 3) (all_writable m l) (λ e. absurd_eq (cc)) (λ e. absurd_eq (cc)))
       (λ q g e. let is : q ≡ r = cc in rw is at (shut_number m (data_size n) q g))
 
 -- ---- what loads and stores depend on, and what they leave: for any addresses l
@@ -130,5 +126,5 @@ unfolding memory_at
 store_both m m' n l v b e h = rw (access_same m m' e (data_size n)) (by_gate (access_gate m' (data_size n)))
   where
     by_gate : (g : Gate) → byte_at (gated g (put_at m l (bytes_of n v)) (λ (r : Refusal). m)) b ≡ byte_at (gated g (put_at m' l (bytes_of n v)) (λ (r : Refusal). m')) b
-    by_gate Open = write_both m m' l (bytes_of n v) b h
-    by_gate (Refused r) = h
+    by_gate (Ok tt) = write_both m m' l (bytes_of n v) b h
+    by_gate (Err r) = h

@@ -1,4 +1,5 @@
-// Regions as words: START, END and FLAGS of each region in turn.
+// Regions as words: START, END and FLAGS of each region in turn. They are lent as a part of the state's words, `sys[REGIONS..VM]`,
+// which is a slice: to make it an array each caller would have to rule out another length first.
 ghost use Rattle.std.specs.Prelude.{◌≡◌, ◌<◌, true, length, slice_index_or, slice_set};
 ghost use Rattle.privilege.specs.Addresses.{addresses};
 ghost use Rattle.privilege.specs.Flat.{regions_at};
@@ -49,11 +50,8 @@ pub(crate) fn put_regions(words: &mut [u32], regions: [Region; 8])
     requires { length words.old ≡ 24 }
     ensures { regions_at words.new ≡ regions }
 {
-    let mut i: usize = 0;
-    while i < REGION_COUNT {
-        let region = regions[i];
-        put_region(words, i, region);
-        i += 1;
+    for i in 0..REGION_COUNT {
+        put_region(words, i, regions[i]);
     }
 }
 
@@ -68,10 +66,8 @@ pub(crate) fn regions_of(words: &[u32]) -> [Region; 8]
         flags: 0,
     };
     let mut regions = [none; 8];
-    let mut i: usize = 0;
-    while i < REGION_COUNT {
+    for i in 0..REGION_COUNT {
         regions[i] = region_at(words, i);
-        i += 1;
     }
     regions
 }
@@ -80,17 +76,12 @@ fn some_grants(regions: &[u32], addr: u32, access: Access) -> bool
     requires { length regions.now ≡ 24 }
     ensures { result ≡ some_grants (regions_at regions.now) addr access }
 {
-    let mut i: usize = 0;
-    loop {
-        if i >= REGION_COUNT {
-            break false;
+    for i in 0..REGION_COUNT {
+        if region_at(regions, i).grants(addr, access) {
+            return true;
         }
-        let region = region_at(regions, i);
-        if region.grants(addr, access) {
-            break true;
-        }
-        i += 1;
     }
+    false
 }
 
 fn byte_allowed(regions: &[u32], addr: u32, access: Access) -> bool
@@ -114,19 +105,15 @@ fn one_grants(regions: &[u32], addr: u32, len: u32, access: Access) -> bool
     if addr > CPU_RESERVED_BASE - len {
         return false;
     }
-    let mut i: usize = 0;
-    loop {
-        if i >= REGION_COUNT {
-            break false;
-        }
+    for i in 0..REGION_COUNT {
         let region = region_at(regions, i);
         if addr + len <= region.end {
             if region.grants(addr, access) {
-                break true;
+                return true;
             }
         }
-        i += 1;
     }
+    false
 }
 
 // Every byte of an access.
@@ -137,17 +124,10 @@ pub(crate) fn all_allowed(regions: &[u32], addr: u32, len: u32, access: Access) 
     if one_grants(regions, addr, len, access) {
         return true;
     }
-    let mut byte = addr;
-    let mut left = len;
-    loop {
-        if left == 0 {
-            break true;
-        }
-        if byte_allowed(regions, byte, access) {
-            byte = std::num::wrapping_add_u32(byte, 1);
-            left -= 1;
-        } else {
-            break false;
+    for i in 0..len {
+        if !byte_allowed(regions, addr.wrapping_add(i), access) {
+            return false;
         }
     }
+    true
 }

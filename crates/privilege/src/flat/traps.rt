@@ -1,10 +1,10 @@
 // Traps: entry, return, and the exchange of R28 to R30, where the words stand.
-ghost use Rattle.std.specs.Prelude.{◌≡◌, length};
-ghost use Rattle.privilege.specs.Flat.{Becomes, Exchanges, Traps, Returns, sys_at, reg_at, system_words};
+ghost use Rattle.privilege.specs.Flat.{Becomes, Exchanges, Traps, Returns, sys_at, reg_at};
 ghost use Rattle.privilege.specs.Trap.{saved};
 
 use crate::flat::{CAUSE, EPC, IE, OTHER_BANK, PIE, PSM, PU, REG, SYSTEM_WORDS, USER};
-use crate::state::{InstructionMode, bit_if, is_short, mode_of};
+use crate::state::{InstructionMode, is_short, mode_of};
+use crate::trap::BANK_FIRST;
 
 // The PC and the instruction mode to resume.
 #[derive(Drop)]
@@ -14,27 +14,16 @@ pub struct Resumed {
 }
 
 // R28 to R30 exchanged with the bank.
-fn exchange(sys: &mut [u32])
-    requires { length sys.old ≡ system_words }
+fn exchange(sys: &mut [u32; SYSTEM_WORDS])
     ensures { Exchanges sys.old sys.new }
 {
-    let a = sys[REG + 28];
-    let b = sys[REG + 29];
-    let c = sys[REG + 30];
-    let x = sys[OTHER_BANK];
-    let y = sys[OTHER_BANK + 1];
-    let z = sys[OTHER_BANK + 2];
-    sys[OTHER_BANK] = a;
-    sys[OTHER_BANK + 1] = b;
-    sys[OTHER_BANK + 2] = c;
-    sys[REG + 28] = x;
-    sys[REG + 29] = y;
-    sys[REG + 30] = z;
+    sys.swap(OTHER_BANK, REG + BANK_FIRST);
+    sys.swap(OTHER_BANK + 1, REG + BANK_FIRST + 1);
+    sys.swap(OTHER_BANK + 2, REG + BANK_FIRST + 2);
 }
 
 // STATUS, EPC and CAUSE of a trap.
-fn save(sys: &mut [u32], epc: u32, cause: u32, mode: InstructionMode)
-    requires { length sys.old ≡ system_words }
+fn save(sys: &mut [u32; SYSTEM_WORDS], epc: u32, cause: u32, mode: InstructionMode)
     ensures { Becomes sys.old sys.new (saved (sys_at sys.old) epc cause mode) (reg_at sys.old) }
 {
     let ie = sys[IE];
@@ -43,7 +32,7 @@ fn save(sys: &mut [u32], epc: u32, cause: u32, mode: InstructionMode)
     sys[PIE] = ie;
     sys[USER] = 0;
     sys[PU] = user;
-    sys[PSM] = bit_if(is_short(mode), 1);
+    sys[PSM] = is_short(mode) as u32;
     sys[EPC] = epc;
     sys[CAUSE] = cause;
 }
@@ -52,14 +41,13 @@ fn save(sys: &mut [u32], epc: u32, cause: u32, mode: InstructionMode)
 pub fn enter_trap(sys: &mut [u32], epc: u32, cause: u32, mode: InstructionMode)
     ensures { Traps sys.old sys.new epc cause mode }
 {
-    if sys.len() != SYSTEM_WORDS {
+    let Some(sys) = sys.as_mut_array::<SYSTEM_WORDS>() else {
         return;
-    }
+    };
     let user = sys[USER];
     save(sys, epc, cause, mode);
     if user % 2 == 1 {
         exchange(sys);
-        return;
     }
 }
 
@@ -67,18 +55,17 @@ pub fn enter_trap(sys: &mut [u32], epc: u32, cause: u32, mode: InstructionMode)
 pub fn leave_trap(sys: &mut [u32]) -> Resumed
     ensures { Returns sys.old sys.new result }
 {
-    if sys.len() != SYSTEM_WORDS {
+    let Some(sys) = sys.as_mut_array::<SYSTEM_WORDS>() else {
         return Resumed {
             epc: 0,
             mode: InstructionMode::Normal,
         };
-    }
+    };
     let user = sys[USER];
     let pu = sys[PU];
-    let mode = mode_of(sys[PSM] % 2 == 1);
     let resumed = Resumed {
         epc: sys[EPC],
-        mode,
+        mode: mode_of(sys[PSM] % 2 == 1),
     };
     sys[IE] = sys[PIE];
     if user % 2 == 1 {

@@ -1,6 +1,6 @@
 -- `race::race_run` meets its contract. Assumes nothing.
+use Rattle.std.proofs.Common.{rules}
 use Rattle.race.proofs.Races.{race_totals, race_bytes}
-use borrow.Author.Rules.{rules}
 use Rattle.race.proofs.race_run.Goals as goal
 
 pub returns : goal.returns

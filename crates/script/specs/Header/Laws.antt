@@ -5,7 +5,7 @@
 --   good_sound                == of a good script the header is sound
 --   image_is                  == then the copied image is the script's image section as it stands
 --   image_fits, memory_length == the image fits the runner's memory, and the front of that is as long as the image
-use Rattle.std.specs.Prelude.{◌≡◌, ℕ, zero, suc, ◌+◌, ◌%◌, ◌<◌, ◌≤◌, Bool, true, false, cond, ◌&&◌, List, length, take, drop, replicate, refl}
+use Rattle.std.specs.Prelude.{◌≡◌, ℕ, zero, suc, ◌+◌, ◌%◌, ◌<◌, ◌≤◌, Bool, true, false, cond, ◌&&◌, List, length, take, drop, replicate, refl, Result, Ok, Err}
 use Rattle.std.proofs.Common.{sym, ◌∙◌, arith, length-take-le, leb-true, eqb-true, ne_eqb}
 use Rattle.std.proofs.lemmas.List.{length-replicate}
 use Rattle.common.specs.Cases.{absurd_eq}
@@ -15,9 +15,8 @@ use Rattle.script.specs.Header.{header_least, header_size, header_at, length_ok,
 use Rattle.script.specs.Image.{bytes_from}
 use Rattle.script.specs.Image.Laws.{bytes_none, bytes_inside}
 use Rattle.script.specs.declared.header.Header.{Header}
-use Rattle.script.specs.declared.header.Section.{Section}
-use Rattle.script.specs.declared.header.Script.{Script}
-use Rattle.script.specs.declared.header.Script.TheVariants.{Good, Refused}
+use Rattle.std.specs.declared.ops.Range.{Range}
+use Rattle.common.specs.declared.Refusal.{Refusal}
 
 pub record Sound (s : List ℕ) (h : Header) : Type 0 where
   pub words : h ≡ header_at s
@@ -34,12 +33,12 @@ record Passed (n : ℕ) (h : Header) : Type 0 where
   map : good_map h.base h.image ≡ true
   sections : sections_ok n h ≡ true
 
-good_passed : (n : ℕ) (h g : Header) → decided n h ≡ Good g → (g ≡ h) × Passed n h
+good_passed : (n : ℕ) (h g : Header) → decided n h ≡ Ok g → (g ≡ h) × Passed n h
 unfolding decided
 good_passed n h g p = by (length_ok n && counts_ok h) (good_map h.base h.image) (sections_ok n h) refl refl refl p
   where
     by : (a m t : Bool) → (length_ok n && counts_ok h) ≡ a → good_map h.base h.image ≡ m → sections_ok n h ≡ t
-        → cond a (cond m (cond t (Good h) (Refused refusal.Section)) (Refused refusal.Map)) (Refused refusal.Header) ≡ Good g → (g ≡ h) × Passed n h
+        → cond a (cond m (cond t (Ok h) (Err refusal.Section)) (Err refusal.Map)) (Err refusal.Header) ≡ Ok g → (g ≡ h) × Passed n h
     by true true true e f k q = ((cc), record { first = e; map = f; sections = k })
     by true true false e f k q = absurd_eq (cc)
     by true false t e f k q = absurd_eq (cc)
@@ -58,11 +57,11 @@ counts_tell : (h : Header) → counts_ok h ≡ true → ((h.events ≤ 2048) × 
 unfolding counts_ok
 counts_tell h = both (both (leb-true h.events 2048) (leb-true h.image 32768)) (eqb-true (h.image % 4096) 0)
 
-section_tells : (z n : ℕ) (p : Section) → section_ok z n p ≡ true → p.at < p.end → p.end ≤ n
+section_tells : (z n : ℕ) (p : Range ℕ) → section_ok z n p ≡ true → p.start < p.end → p.end ≤ n
 unfolding section_ok
 section_tells z n p e h =
-    let ne : p.at ≡ p.end → ⊥ = λ q. omega arith in
-    (both (leb-true z p.at) (leb-true p.end n) (rw (ne_eqb p.at p.end ne) at e)).1
+    let ne : p.start ≡ p.end → ⊥ = λ q. omega arith in
+    (both (leb-true z p.start) (leb-true p.end n) (rw (ne_eqb p.start p.end ne) at e)).1
 
 sections_tell : (n : ℕ) (h : Header) → sections_ok n h ≡ true
     → ((0 < h.events → event_place h h.events ≤ n) × (0 < h.image → h.image_at + h.image ≤ n)) × (apart (events_section h) (image_section h) ≡ true)
@@ -86,7 +85,7 @@ passed_sound s h w t =
       image_inside = λ k g. omega (arith, sections.0.1 (omega arith));
     }
 
-pub good_sound : (s : List ℕ) (h : Header) → script_of s ≡ Good h → Sound s h
+pub good_sound : (s : List ℕ) (h : Header) → script_of s ≡ Ok h → Sound s h
 unfolding script_of
 good_sound s h p =
     let q = good_passed (length s) (header_at s) h p in
@@ -100,7 +99,7 @@ image_is s h t = by h.image t.image_inside
     by (suc n) g = bytes_inside s h.image_at (suc n) (omega (arith, g n (omega arith)))
 
 -- x is what `header_of` answered
-module _ (s : List ℕ) (h : Header) (x : Script) (e : x ≡ script_of s) (g : x ≡ Good h) where
+module _ (s : List ℕ) (h : Header) (x : Result Header Refusal) (e : x ≡ script_of s) (g : x ≡ Ok h) where
   pub image_fits : h.image ≤ 32768
   image_fits = (good_sound s h (sym e ∙ g)).small_image
 

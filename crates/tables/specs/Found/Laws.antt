@@ -8,7 +8,7 @@
 --   bytes_outside                            == the bytes outside the used frames
 --   pages_ascend, directory_low              == the directories of the list
 --   answer_ptbr, answer_used, written_memory == what a call that was not refused answered and wrote
-use Rattle.std.specs.Prelude.{ℕ, ◌+◌, ◌*◌, ◌/◌, ◌^◌, ◌≤◌, ◌<◌, ◌≡◌, refl, List, [], ◌∷◌, ◌++◌, leb, eqb}
+use Rattle.std.specs.Prelude.{ℕ, ◌+◌, ◌*◌, ◌/◌, ◌^◌, ◌≤◌, ◌<◌, ◌≡◌, refl, List, [], ◌∷◌, ◌++◌, leb, eqb, Some, Ok}
 use Rattle.std.proofs.Math.Path.{sym, ap}
 use Rattle.std.proofs.Common.{◌∙◌, inl, inr, ⊎_elim, leb-true, eq-eqb, ne_eqb, le-leb}
 use Rattle.std.proofs.Math.Bool.{true}
@@ -18,18 +18,16 @@ use Rattle.std.proofs.Math.ListN.{length, get_or, length-append}
 use Rattle.common.specs.Cases.{cond_holds, and_left, and_right, lt_or_ge}
 use Rattle.common.specs.Lists.{Each, each_get_d}
 use Rattle.memory.specs.Memory.{byte_at}
-use Rattle.memory.specs.declared.Content.TheVariants.{Value}
 use Rattle.mmu.specs.Walk.{walk_leaf}
 use Rattle.mmu.specs.declared.tlb.TlbEntry.{TlbEntry}
-use Rattle.mmu.specs.declared.walk.Walked.TheVariants.{Leaf}
 use Rattle.mmu.specs.Walk.Laws.{leaf_found, entry_of_lem}
 use Rattle.tables.specs.declared.mapping.Mapping.{Mapping}
-use Rattle.tables.specs.declared.write.Tables.TheVariants.{Written}
+use Rattle.tables.specs.declared.write.Tables.{Tables}
 use Rattle.tables.specs.Mapping.{leaf_of, leaf_at, good_mapping, all_good, ascending_from}
 use Rattle.tables.specs.Mapping.Laws.{pages_in, pages_of, good_ascending, first_good, rest_good, page_low, frame_low, bits_even, bits_small, leaf_accepted}
 use Rattle.tables.specs.Words.Laws.{InMap, words_fit, words_other}
 use Rattle.tables.specs.Tables as t
-use Rattle.tables.specs.Tables.{directories, table_for, tables_after, image, frames_for, answer_for, by_answer, memory_after, Call, list_of, answer_to, after}
+use Rattle.tables.specs.Tables.{directories, table_for, tables_after, image, frames_for, written, answer_for, by_answer, memory_after, Call, list_of, answer_to, after}
 use Rattle.tables.specs.Tables.Laws.{Accepted, accepted, run_starts, frames_in, directories_ascend, directories_small, level1_size, tables_size}
 use Rattle.tables.specs.Found.{made, Listed, entry_of, InFrames}
 
@@ -122,11 +120,11 @@ module _ (c : Call) (acc : Accepted c) where
   pub ascends : ascending_from 0 (pages_in (list_of c)) ≡ true
   ascends = rw (pages_of c.vpns c.ppns c.bits acc.list) (good_ascending c.vpns c.ppns c.bits acc.list)
 
-  pub entry_listed : (va : ℕ) (x : Mapping) → Listed x (list_of c) → x.vpn ≡ va / 4096 → (walk_leaf va (Value (leaf_of x))).walked ≡ Leaf (entry_of x)
+  pub entry_listed : (va : ℕ) (x : Mapping) → Listed x (list_of c) → x.vpn ≡ va / 4096 → (walk_leaf va (Some (leaf_of x))).walked ≡ Ok (entry_of x)
   entry_listed va x h e =
       let g = listed_good x (list_of c) acc.leaves h in
       leaf_found va (leaf_of x) (leaf_accepted x g)
-      ∙ ap Leaf (entry_of_lem va x.ppn x.bits (frame_low x g) (bits_even x g) (bits_small x g) ∙ rw (← e))
+      ∙ ap Ok (entry_of_lem va x.ppn x.bits (frame_low x g) (bits_even x g) (bits_small x g) ∙ rw (← e))
 
   -- ---- the bytes
 
@@ -155,19 +153,19 @@ module _ (c : Call) (acc : Accepted c) where
 
 -- ---- the same of a call that wrote
 
-accepted_answer : (c : Call) → Accepted c → answer_to c ≡ Written c.first (frames_for c.vpns)
+accepted_answer : (c : Call) → Accepted c → answer_to c ≡ Ok (written c.first (frames_for c.vpns))
 unfolding answer_for
 accepted_answer c a = rw (a.map, a.list, a.leaves, a.run, le-leb (frames_for c.vpns) c.frames a.enough)
 
-module _ (c : Call) (ptbr used : ℕ) (w : answer_to c ≡ Written ptbr used) where
-  answer_is : Written ptbr used ≡ Written c.first (frames_for c.vpns)
-  answer_is = sym w ∙ accepted_answer c (accepted c ptbr used w)
+module _ (c : Call) (ptbr used : ℕ) (w : answer_to c ≡ Ok (written ptbr used)) where
+  answer_is : written ptbr used ≡ written c.first (frames_for c.vpns)
+  answer_is = let z = accepted_answer c (accepted c ptbr used w) in cc
 
   pub answer_ptbr : ptbr ≡ c.first
-  answer_ptbr = let z = answer_is in cc
+  answer_ptbr = ap (λ (t : Tables). t.ptbr) answer_is
 
   pub answer_used : used ≡ frames_for c.vpns
-  answer_used = let z = answer_is in cc
+  answer_used = ap (λ (t : Tables). t.used) answer_is
 
   pub written_memory : after c ≡ made c
   unfolding memory_after by_answer

@@ -6,7 +6,7 @@
 --   level1_size, level1_at, level2_size, level2_at, tables_size == the words of the tables
 --   Placed                                                      == where a page's leaf stands; proofs/Frames.antt has placed, that it stands so
 --   directories_ascend, directories_small                       == the directories of ascending pages
-use Rattle.std.specs.Prelude.{ℕ, ◌+◌, ◌*◌, ◌/◌, ◌%◌, ◌^◌, ◌≤◌, ◌<◌, ◌≡◌, refl, Bool, true, false, cond, ◌&&◌, ◌||◌, List, [], ◌∷◌, ◌++◌, leb, eqb, get_or}
+use Rattle.std.specs.Prelude.{ℕ, ◌+◌, ◌*◌, ◌/◌, ◌%◌, ◌^◌, ◌≤◌, ◌<◌, ◌≡◌, refl, Bool, true, false, cond, ◌&&◌, ◌||◌, List, [], ◌∷◌, ◌++◌, leb, eqb, get_or, Ok, Err}
 use Rattle.std.proofs.Common.{sym, ◌∙◌, ⊎_elim, length-append}
 use Rattle.std.proofs.Math.Path.{ap}
 use native.Mathlib.Omega.{arith}
@@ -18,11 +18,10 @@ use Rattle.memory.specs.Memory.{Memory, good_map}
 use Rattle.memory.specs.Memory.Laws.{good_map_end}
 use Rattle.tables.specs.declared.mapping.Mapping.{Mapping}
 use Rattle.tables.specs.declared.refusal.Refusal.TheVariants.{Map, Order, Leaf, Run, Frames}
-use Rattle.tables.specs.declared.write.Tables.TheVariants.{Written, Refused}
 use Rattle.tables.specs.Mapping.{leaf_at, all_good, ascending_from, good_list}
 use Rattle.tables.specs.Mapping.Laws.{pages_in}
 use Rattle.tables.specs.Words.Laws.{words_length, words_at}
-use Rattle.tables.specs.Tables.{directories_after, directories, table_for, level1, level2, tables_after, frames_for, good_run, answer_for, Call, list_of, answer_to}
+use Rattle.tables.specs.Tables.{directories_after, directories, table_for, level1, level2, tables_after, frames_for, good_run, written, answer_for, Call, list_of, answer_to}
 
 -- ---- what is not refused
 
@@ -34,7 +33,7 @@ pub record Accepted (c : Call) : Type 0 where
   pub enough : frames_for c.vpns ≤ c.frames
 
 all_five : (a b c d e : Bool) (first used p u : ℕ)
-    → cond a (cond b (cond c (cond d (cond e (Written first used) (Refused Frames)) (Refused Run)) (Refused Leaf)) (Refused Order)) (Refused Map) ≡ Written p u
+    → cond a (cond b (cond c (cond d (cond e (Ok (written first used)) (Err Frames)) (Err Run)) (Err Leaf)) (Err Order)) (Err Map) ≡ Ok (written p u)
     → (a ≡ true) × (b ≡ true) × (c ≡ true) × (d ≡ true) × (e ≡ true)
 all_five false b c d e first used p u q = absurd_eq (cc)
 all_five true false c d e first used p u q = absurd_eq (cc)
@@ -51,7 +50,7 @@ run_covered m first n g h =
     let s : (leb m.base first && leb (first + 4096 * n) (m.base + length m.bytes)) ≡ true = rw (ne_eqb n 0 (λ e. omega arith)) at t in
     (leb-true _ _ (and_left (leb m.base first) _ s), leb-true _ _ (and_right (leb m.base first) _ s))
 
-pub accepted : (c : Call) (p u : ℕ) → answer_to c ≡ Written p u → Accepted c
+pub accepted : (c : Call) (p u : ℕ) → answer_to c ≡ Ok (written p u) → Accepted c
 unfolding answer_for
 accepted c p u q =
     let t = all_five (good_map c.memory.base (length c.memory.bytes)) (good_list c.vpns c.ppns c.bits) (all_good (list_of c)) (good_run c.memory c.first c.frames) (leb (frames_for c.vpns) c.frames)

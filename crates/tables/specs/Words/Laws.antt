@@ -9,14 +9,13 @@
 --   words_other                 == bytes before and after the words stay
 --   word_back                   == each word is read back
 --   words_same                  == the bytes of the words do not depend on what stood there
-use Rattle.std.specs.Prelude.{ℕ, zero, suc, ◌+◌, ◌-◌, ◌*◌, ◌/◌, ◌%◌, ◌^◌, ◌≤◌, ◌<◌, ◌≡◌, refl, true, List, [], ◌∷◌, ◌++◌, ◌⊎◌, length, get_or}
+use Rattle.std.specs.Prelude.{ℕ, zero, suc, ◌+◌, ◌-◌, ◌*◌, ◌/◌, ◌%◌, ◌^◌, ◌≤◌, ◌<◌, ◌≡◌, refl, true, List, [], ◌∷◌, ◌++◌, ◌⊎◌, length, get_or, Some}
 use Rattle.std.proofs.Common.{sym, ap, ◌∙◌, inl, inr, ⊎_elim, arith}
 use Rattle.common.specs.Bytes.{bytes_of, big_endian, bytes_four}
 use Rattle.common.specs.Lists.{Each}
 use Rattle.common.specs.Cases.{lt_or_ge}
 use Rattle.memory.specs.Memory.{Memory, lent, inside, byte_at, read_at, word_spots, put_byte}
 use Rattle.memory.specs.Memory.Laws.{SameMap, inside_same, read_same, byte_inside, over, put_map, put_here, put_other, write_map, write_other, inside_map, lent_put}
-use Rattle.memory.specs.declared.Content.TheVariants.{Value}
 use Rattle.memory.specs.Memory.Bytewise.{put_four, read_four}
 use Rattle.tables.specs.Words.{put_word, put_words, words_of}
 
@@ -49,7 +48,7 @@ put_word_is base a w l l₁ l₂ l₃ l₄ h p q r s =
     ap (λ (m : Memory). m.bytes) (e₄ ∙ sym (four_bytes (lent base l) a w h))
 
 -- a written byte that is in the map
-byte_put : (m : Memory) (a v : ℕ) → inside m a ≡ true → byte_at (put_byte m a v) a ≡ Value v
+byte_put : (m : Memory) (a v : ℕ) → inside m a ≡ true → byte_at (put_byte m a v) a ≡ Some v
 byte_put m a v h = put_here m a v ∙ ap (over v) (byte_inside m a h)
 
 put_inside : (m : Memory) (a v b : ℕ) → inside m b ≡ true → inside (put_byte m a v) b ≡ true
@@ -57,30 +56,30 @@ put_inside m a v b h = inside_same (put_byte m a v) m (put_map m a v) b ∙ h
 
 -- the four bytes of a word that is written in the map
 module _ (m : Memory) (a w : ℕ) (small : w < 2 ^ 32) (ins : (b : ℕ) → a ≤ b → b < a + 4 → inside m b ≡ true) where
-  byte_0 : byte_at (put_word m a w) a ≡ Value (w / 16777216)
+  byte_0 : byte_at (put_word m a w) a ≡ Some (w / 16777216)
   byte_0 =
       rw (four_bytes m a w small) (put_other _ (a + 3) _ a (λ e. omega arith)
       ∙ put_other _ (a + 2) _ a (λ e. omega arith) ∙ put_other _ (a + 1) _ a (λ e. omega arith) ∙ byte_put m a _ (ins a (omega arith) (omega arith)))
 
-  byte_1 : byte_at (put_word m a w) (a + 1) ≡ Value (w / 65536 % 256)
+  byte_1 : byte_at (put_word m a w) (a + 1) ≡ Some (w / 65536 % 256)
   byte_1 =
       rw (four_bytes m a w small) (put_other _ (a + 3) _ (a + 1) (λ e. omega arith)
       ∙ put_other _ (a + 2) _ (a + 1) (λ e. omega arith) ∙ byte_put _ (a + 1) _ (put_inside m a _ (a + 1) (ins (a + 1) (omega arith) (omega arith))))
 
-  byte_2 : byte_at (put_word m a w) (a + 2) ≡ Value (w / 256 % 256)
+  byte_2 : byte_at (put_word m a w) (a + 2) ≡ Some (w / 256 % 256)
   byte_2 =
       rw (four_bytes m a w small) (put_other _ (a + 3) _ (a + 2) (λ e. omega arith)
       ∙ byte_put _ (a + 2) _ (put_inside _ (a + 1) _ (a + 2) (put_inside m a _ (a + 2) (ins (a + 2) (omega arith) (omega arith)))))
 
-  byte_3 : byte_at (put_word m a w) (a + 3) ≡ Value (w % 256)
+  byte_3 : byte_at (put_word m a w) (a + 3) ≡ Some (w % 256)
   byte_3 =
       rw (four_bytes m a w small) (byte_put _ (a + 3) _ (put_inside _ (a + 2) _ (a + 3)
       (put_inside _ (a + 1) _ (a + 3) (put_inside m a _ (a + 3) (ins (a + 3) (omega arith) (omega arith))))))
 
-  pub word_here : read_at (put_word m a w) (word_spots a) ≡ Value w
+  pub word_here : read_at (put_word m a w) (word_spots a) ≡ Some w
   word_here =
       let whole : big_endian (w / 16777216 ∷ w / 65536 % 256 ∷ w / 256 % 256 ∷ w % 256 ∷ []) ≡ w = omega arith in
-      read_four (put_word m a w) a _ _ _ _ byte_0 byte_1 byte_2 byte_3 ∙ ap Value whole
+      read_four (put_word m a w) a _ _ _ _ byte_0 byte_1 byte_2 byte_3 ∙ ap Some whole
 
 pub word_other : (m : Memory) (a w b : ℕ) → (b < a) ⊎ (a + 4 ≤ b) → byte_at (put_word m a w) b ≡ byte_at m b
 unfolding put_word
@@ -155,7 +154,7 @@ first_in : (m : Memory) (a n : ℕ) → InMap m a (suc n) → (b : ℕ) → a �
 first_in m a n h b g k = in_map m a (suc n) b h g (omega arith)
 
 pub word_back : (ws : List ℕ) (m : Memory) (a : ℕ) → InMap m a (length ws) → Each (λ w. w < 2 ^ 32) ws → (k : ℕ) → k < length ws
-    → read_at (put_words m a ws) (word_spots (a + 4 * k)) ≡ Value (get_or ws k 0)
+    → read_at (put_words m a ws) (word_spots (a + 4 * k)) ≡ Some (get_or ws k 0)
 unfolding put_words
 word_back [] m a h s k g = absurd (omega arith)
 word_back (w ∷ ws) m a h s zero g =

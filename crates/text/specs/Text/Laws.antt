@@ -10,10 +10,8 @@
 --   decimal_length   == at most twenty digits
 --   decimal_below    == a number below 10^k has at most k digits
 --   decimal_step     == the lowest digit, and the digits before it
-use Prim.Native.Nat.{ℕ, zero, suc, ◌+◌, ◌-◌, ◌*◌, ◌/◌, ◌%◌, ◌^◌, ◌≤◌, ◌<◌}
-use Rattle.std.specs.Prelude.{◌≡◌, refl, cond, List, [], ◌∷◌, ◌++◌, ltb, length, get_or, set, take, drop}
-use Rattle.std.proofs.Common.{sym, ap, ap₂, ◌∙◌, add-zero, lt_of_lt_of_le, pow-suc, add-one, pow_mono, length-set, length-drop, drop_of_length-le, take_all, drop-cons, drop-set-lt, get_or-set_same, lt-length-set, lt-ltb, le-ltb, ltb-true, ltb-false}
-use native.Mathlib.Omega.{arith}
+use Rattle.std.specs.Prelude.{ℕ, zero, suc, ◌+◌, ◌-◌, ◌*◌, ◌/◌, ◌%◌, ◌^◌, ◌≤◌, ◌<◌, ◌≡◌, refl, cond, List, [], ◌∷◌, ◌++◌, ltb, length, get_or, set, take, drop}
+use Rattle.std.proofs.Common.{arith, sym, ap, ap₂, ◌∙◌, add-zero, lt_of_lt_of_le, pow-suc, add-one, pow_mono, length-set, length-drop, drop_of_length-le, take_all, drop-cons, drop-set-lt, get_or-set_same, lt-length-set, lt-ltb, le-ltb, ltb-true, ltb-false}
 use Rattle.std.proofs.Math.Nat.{div-eq_of_lt}
 use Rattle.std.proofs.lemmas.List.Edits.{sets}
 use Rattle.common.specs.Cases.{cond_holds, cond_case}

@@ -8,18 +8,16 @@
 --   laid_word                == a word that is read is word i of the list
 --   each_word                == what holds of 0 and of every word of a list holds of word i
 --   laid_other, laid_write   == a byte off the first word of the list; a word written
-use Rattle.std.specs.Prelude.{ℕ, zero, suc, ◌+◌, ◌-◌, ◌*◌, ◌/◌, ◌%◌, ◌^◌, ◌<◌, ◌≡◌, refl, Bool, true, false, cond, List, [], ◌∷◌, map, ◌⊎◌, ◌≢◌, eqb, ltb, leb, length, get_or, replicate}
+use Rattle.std.specs.Prelude.{ℕ, zero, suc, ◌+◌, ◌-◌, ◌*◌, ◌/◌, ◌%◌, ◌^◌, ◌<◌, ◌≡◌, refl, Bool, true, false, cond, List, [], ◌∷◌, map, ◌⊎◌, ◌≢◌, eqb, ltb, leb, length, get_or, replicate, Option, Some, None, Ok}
 use Rattle.std.proofs.Common.{sym, ap, ◌∙◌, inl, inr, arith, lit<, eq-eqb, ne_eqb, eqb-true, lt-ltb, ltb-true, le-leb, leb-true}
 use Rattle.std.proofs.Math.Decide.{ℕ_discrete}
 use Rattle.std.proofs.lemmas.List.{length-replicate, get_or-replicate}
 use Rattle.common.specs.Bytes.{big_endian, bytes_of}
 use Rattle.common.specs.Cases.{absurd_eq, bool_is, cond_case}
-use Rattle.memory.specs.Gate.{Open, map_gate}
+use Rattle.memory.specs.Gate.{map_gate}
 use Rattle.memory.specs.Gate.Laws.{map_open}
 use Rattle.memory.specs.Memory.{Memory, lent, inside, byte_at, gathered, read_at, put_byte, put_at, word_spots}
 use Rattle.memory.specs.Memory.Laws.{SameMap, good_map_is, byte_inside, byte_outside, put_here, put_other, write_map, write_other, over}
-use Rattle.memory.specs.declared.Content.{Content}
-use Rattle.memory.specs.declared.Content.TheVariants.{Value, Outside}
 use Rattle.witness.specs.Laid.{Word, laid}
 
 abbrev pub as_read : ℕ → ℕ
@@ -33,8 +31,8 @@ unfoldable pub word_in : List Word → ℕ → ℕ
 word_in [] i = 0
 word_in (w ∷ l) i = cond (eqb i w.0) (as_read w.1) (word_in l i)
 
-unfoldable pub content_in : ℕ → List Word → ℕ → Content
-content_in p l a = cond (ltb a (p * 4096)) (Value (byte_in l a)) Outside
+unfoldable pub content_in : ℕ → List Word → ℕ → Option ℕ
+content_in p l a = cond (ltb a (p * 4096)) (Some (byte_in l a)) None
 
 -- ---- the map
 
@@ -61,7 +59,7 @@ laid_inside p l a =
     let none : a - 0 ≡ a = omega arith in
     rw (laid_base p l, laid_size p l, le-leb 0 a (omega arith), none)
 
-pub laid_good : (p : ℕ) (l : List Word) → leb p 0xFFFF0 ≡ true → map_gate (laid p l) ≡ Open
+pub laid_good : (p : ℕ) (l : List Word) → leb p 0xFFFF0 ≡ true → map_gate (laid p l) ≡ Ok tt
 laid_good p l h =
     let low = leb-true p 0xFFFF0 h in
     map_open (laid p l)
@@ -70,10 +68,10 @@ laid_good p l h =
 -- ---- a byte
 
 -- one byte written
-put_byte_lem : (m : Memory) (b v a x : ℕ) → byte_at m a ≡ Value x → byte_at (put_byte m b v) a ≡ Value (cond (eqb a b) v x)
+put_byte_lem : (m : Memory) (b v a x : ℕ) → byte_at m a ≡ Some x → byte_at (put_byte m b v) a ≡ Some (cond (eqb a b) v x)
 put_byte_lem m b v a x h = by_place (ℕ_discrete a b)
   where
-    by_place : Dec (a ≡ b) → byte_at (put_byte m b v) a ≡ Value (cond (eqb a b) v x)
+    by_place : Dec (a ≡ b) → byte_at (put_byte m b v) a ≡ Some (cond (eqb a b) v x)
     by_place (yes e) = rw (eq-eqb a b e, e) (put_here m b v ∙ ap (over v) (rw e at h))
     by_place (no n) = rw (ne_eqb a b n) (put_other m b v a n ∙ h)
 
@@ -98,37 +96,37 @@ module _ (m : Memory) (i v₀ v₁ v₂ v₃ : ℕ) where
   abbrev put_word : Memory
   put_word = put_byte (put_byte (put_byte (put_byte m (i * 4) v₀) (i * 4 + 1) v₁) (i * 4 + 2) v₂) (i * 4 + 3) v₃
 
-  put_four : (a x : ℕ) → byte_at m a ≡ Value x
-      → byte_at put_word a ≡ Value (cond (eqb a (i * 4 + 3)) v₃ (cond (eqb a (i * 4 + 2)) v₂ (cond (eqb a (i * 4 + 1)) v₁ (cond (eqb a (i * 4)) v₀ x))))
+  put_four : (a x : ℕ) → byte_at m a ≡ Some x
+      → byte_at put_word a ≡ Some (cond (eqb a (i * 4 + 3)) v₃ (cond (eqb a (i * 4 + 2)) v₂ (cond (eqb a (i * 4 + 1)) v₁ (cond (eqb a (i * 4)) v₀ x))))
   put_four a x h =
       put_byte_lem _ (i * 4 + 3) v₃ a _ (put_byte_lem _ (i * 4 + 2) v₂ a _ (put_byte_lem _ (i * 4 + 1) v₁ a _ (put_byte_lem m (i * 4) v₀ a x h)))
 
-  put_word_lem : (a x : ℕ) → byte_at m a ≡ Value x → byte_at put_word a ≡ Value (cond (eqb (a / 4) i) (get_or (v₀ ∷ v₁ ∷ v₂ ∷ v₃ ∷ []) (a % 4) 0) x)
+  put_word_lem : (a x : ℕ) → byte_at m a ≡ Some x → byte_at put_word a ≡ Some (cond (eqb (a / 4) i) (get_or (v₀ ∷ v₁ ∷ v₂ ∷ v₃ ∷ []) (a % 4) 0) x)
   put_word_lem a x h = by_word (ℕ_discrete (a / 4) i)
     where
-      by_word : Dec (a / 4 ≡ i) → byte_at put_word a ≡ Value (cond (eqb (a / 4) i) (get_or (v₀ ∷ v₁ ∷ v₂ ∷ v₃ ∷ []) (a % 4) 0) x)
+      by_word : Dec (a / 4 ≡ i) → byte_at put_word a ≡ Some (cond (eqb (a / 4) i) (get_or (v₀ ∷ v₁ ∷ v₂ ∷ v₃ ∷ []) (a % 4) 0) x)
       by_word (yes e) =
           let start : i * 4 + 0 ≡ i * 4 = omega arith in
           let first : eqb a (i * 4) ≡ eqb (a % 4) 0 = rw start at (place_test a i 0 e (lit< tt)) in
           rw (eq-eqb (a / 4) i e)
           (put_four a x h ∙ rw (place_test a i 3 e (lit< tt), place_test a i 2 e (lit< tt), place_test a i 1 e (lit< tt), first)
-          (ap Value (picked (a % 4) v₀ v₁ v₂ v₃ x (omega arith))))
+          (ap Some (picked (a % 4) v₀ v₁ v₂ v₃ x (omega arith))))
       by_word (no n) =
           let off : (k : ℕ) → k < 4 → eqb a (i * 4 + k) ≡ false = λ k g. ne_eqb a (i * 4 + k) (λ e. n (omega arith)) in
           rw (ne_eqb (a / 4) i n)
           (put_four a x h ∙ rw (off 3 (lit< tt), off 2 (lit< tt), off 1 (lit< tt), ne_eqb a (i * 4) (λ e. n (omega arith))))
 
-value_laid : (p : ℕ) (l : List Word) (a : ℕ) → a < p * 4096 → byte_at (laid p l) a ≡ Value (byte_in l a)
+value_laid : (p : ℕ) (l : List Word) (a : ℕ) → a < p * 4096 → byte_at (laid p l) a ≡ Some (byte_in l a)
 unfolding laid byte_in put_at bytes_of
 value_laid p [] a h =
     let none : a - 0 ≡ a = omega arith in
-    byte_inside (laid p []) a (laid_inside p [] a ∙ lt-ltb a (p * 4096) h) ∙ rw none (ap Value (get_or-replicate {A = ℕ} (p * 4096) a 0 0 h))
+    byte_inside (laid p []) a (laid_inside p [] a ∙ lt-ltb a (p * 4096) h) ∙ rw none (ap Some (get_or-replicate {A = ℕ} (p * 4096) a 0 0 h))
 value_laid p (w ∷ l) a h = put_word_lem (laid p l) w.0 _ _ _ _ a (byte_in l a) (value_laid p l a h)
 
 pub laid_byte : (p : ℕ) (l : List Word) (a : ℕ) → byte_at (laid p l) a ≡ content_in p l a
 unfolding content_in
 laid_byte p l a =
-    cond_case (λ (c : Content). byte_at (laid p l) a ≡ c) (ltb a (p * 4096))
+    cond_case (λ (c : Option ℕ). byte_at (laid p l) a ≡ c) (ltb a (p * 4096))
     (λ t. value_laid p l a (ltb-true a (p * 4096) t))
     (λ t. byte_outside (laid p l) a (laid_inside p l a ∙ t))
 
@@ -178,11 +176,11 @@ word_bytes (w ∷ l) i =
     by_number true v₀ v₁ v₂ v₃ ih = refl
     by_number false v₀ v₁ v₂ v₃ ih = ih
 
-pub laid_word : (p : ℕ) (l : List Word) (i w : ℕ) → read_at (laid p l) (word_spots (i * 4)) ≡ Value w → w ≡ word_in l i
+pub laid_word : (p : ℕ) (l : List Word) (i w : ℕ) → read_at (laid p l) (word_spots (i * 4)) ≡ Some w → w ≡ word_in l i
 unfolding content_in gathered
 laid_word p l i w h = by_place (bool_is (ltb (i * 4) (p * 4096))) (sym (laid_read p l (word_spots (i * 4))) ∙ h)
   where
-    by_place : (ltb (i * 4) (p * 4096) ≡ true) ⊎ (ltb (i * 4) (p * 4096) ≡ false) → gathered 0 (map (content_in p l) (word_spots (i * 4))) ≡ Value w → w ≡ word_in l i
+    by_place : (ltb (i * 4) (p * 4096) ≡ true) ⊎ (ltb (i * 4) (p * 4096) ≡ false) → gathered 0 (map (content_in p l) (word_spots (i * 4))) ≡ Some w → w ≡ word_in l i
     by_place (inl t) g =
         let n = ltb-true (i * 4) (p * 4096) t in
         let read = rw (t, lt-ltb (i * 4 + 1) (p * 4096) (omega arith), lt-ltb (i * 4 + 2) (p * 4096) (omega arith), lt-ltb (i * 4 + 3) (p * 4096) (omega arith)) at g in

@@ -1,6 +1,6 @@
 -- `irqc::IrqController::set_source` meets its contract: the test of the source's bit is `bit_set`, and each way is the definition's.
 -- Assumes nothing.
-use borrow.Author.Tests.{lt-ltb, le-ltb}
+use Rattle.std.proofs.Common.{lt-ltb, le-ltb}
 use Rattle.common.specs.Bits.Laws.{one_shifted, clear_bit, set_bit}
 use Rattle.irqc.specs.Irqc.{source_set}
 use Rattle.irqc.proofs.IrqController.set_source.Goals as goal

@@ -1,10 +1,6 @@
 -- `irqc::IrqController::set_source_levels` meets its contract: setting the sources that change is setting all of the mask's, and
 -- where none changes nothing does. Assumes nothing.
-use Prim.Native.Nat.{ℕ}
-use mathlib.Core.Path.{sym, ap, ◌∙◌}
-use native.Mathlib.Omega.{arith}
-use lib.Dec.{lit≤}
-use lib.Bits.{bit_and}
+use Rattle.std.proofs.Common.{ℕ, sym, ap, ◌∙◌, arith, lit≤, bit_and}
 use Rattle.irqc.specs.Irqc.{each_set}
 use Rattle.irqc.proofs.Sources.{none_changed, changed_is}
 use Rattle.irqc.proofs.IrqController.set_source_levels.Goals as goal

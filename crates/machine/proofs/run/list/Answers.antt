@@ -13,8 +13,8 @@ slice_bounds-list_good-end c = sym (search memory_length)
 pub list_good-requires : goal.list_good-requires
 list_good-requires c = search memory_length
 
-pub returns-in-Refused : goal.returns-in-Refused
-returns-in-Refused c = search refused_listed
+pub returns-in-Err : goal.returns-in-Err
+returns-in-Err c = search refused_listed
 
-pub returns-in-Good : goal.returns-in-Good
-returns-in-Good c = search good_listed
+pub returns-in-Ok : goal.returns-in-Ok
+returns-in-Ok c = search good_listed

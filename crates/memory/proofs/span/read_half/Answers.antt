@@ -1,12 +1,10 @@
--- `memory::span::read_half` meets its contract: the half begins below the map, lies in it, or ends above it. Assumes nothing.
-use Rattle.memory.proofs.Spans.{halves}
+-- `memory::span::read_half` meets its contract: the half lies in the map, or some of it does not. Assumes nothing.
+use Rattle.std.proofs.Common.{rules}
+use Rattle.memory.proofs.Spans.{half_missing, half_read}
 use Rattle.memory.proofs.span.read_half.Goals as goal
 
-pub returns-then-addr-base : goal.returns-then-addr-base
-returns-then-addr-base c = search halves
+pub returns-in_err-bytes : goal.returns-in_err-bytes
+returns-in_err-bytes c = search (half_missing, rules)
 
-pub returns-then-at-mem : goal.returns-then-at-mem
-returns-then-at-mem c = search halves
-
-pub returns-else-at-mem : goal.returns-else-at-mem
-returns-else-at-mem c = search halves
+pub returns : goal.returns
+returns c = search (half_read, rules)

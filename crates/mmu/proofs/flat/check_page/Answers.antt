@@ -6,8 +6,8 @@ use Rattle.mmu.proofs.flat.check_page.Goals as goal
 pub returns-then-page-ge-CPU_RESERVED_BASE : goal.returns-then-page-ge-CPU_RESERVED_BASE
 returns-then-page-ge-CPU_RESERVED_BASE c = search (pages, rules)
 
-pub returns-then-slot-lt-TLB_ENTRIES : goal.returns-then-slot-lt-TLB_ENTRIES
-returns-then-slot-lt-TLB_ENTRIES c = search (pages, rules)
+pub returns-in_default : goal.returns-in_default
+returns-in_default c = search (pages, rules)
 
 pub returns : goal.returns
 returns c = search (pages, rules)

@@ -9,8 +9,5 @@ returns-then-grants c = search (grantings, rules)
 pub returns-else-grants : goal.returns-else-grants
 returns-else-grants c = search (grantings, rules)
 
-pub returns-in-Missing : goal.returns-in-Missing
-returns-in-Missing c = search (grantings, rules)
-
-pub returns-in-BusError : goal.returns-in-BusError
-returns-in-BusError c = search (grantings, rules)
+pub returns-in-Err : goal.returns-in-Err
+returns-in-Err c = search (grantings, rules)

@@ -1,13 +1,8 @@
 -- `mmu::flat::invalidate` meets its contract. The loop's invariant: the entries below `i` are dropped, the others as they were. Assumes nothing.
-use Rattle.std.proofs.Common.{◌≡◌, ◌-◌, ◌/◌, ◌≤◌, length}
-use Rattle.mmu.specs.Flat.{vm_words, vm_at}
+use Rattle.mmu.specs.Flat.{vm_at}
 use Rattle.mmu.proofs.Flats.{DroppedTo}
 use Rattle.mmu.proofs.flat.invalidate.Given as goal
 
 abbrev pub invariant-loop-i : goal.invariant-loop-i
 invariant-loop-i l =
-    DroppedTo l.i l.page (vm_at l.initial.vm) l.vm × (l.i ≤ 16) × (length l.vm ≡ vm_words) × (length l.initial.vm ≡ vm_words) × (l.page ≡ l.va / 4096)
-
-abbrev pub decreases-loop-i : goal.decreases-loop-i
-decreases-loop-i l =
-    16 - l.i
+    DroppedTo l.i l.page (vm_at l.initial.vm) l.vm

@@ -2,17 +2,17 @@
 use Rattle.std.proofs.Common.{refl, rules}
 use Rattle.mmu.proofs.Flats.{slots}
 use Rattle.mmu.proofs.flat.slot_of.Goals as goal
-use Rattle.mmu.proofs.flat.slot_of.Goals.{then-vm-at+else-vm-at-eq1, else-vm-at}
+use Rattle.mmu.proofs.flat.slot_of.Goals.{else-vm-at-via-then-vm-at+else-vm-at-eq1, else-vm-at-via-else-vm-at}
 
 pub loop-i-init : goal.loop-i-init
-loop-i-init c = (refl, search rules, search rules, search rules)
+loop-i-init c = refl
 
 pub loop-i-preserved : goal.loop-i-preserved
 loop-i-preserved c =
-    (elim c.if-vm-at.branch [ then-vm-at+else-vm-at-eq1 w ↦ search (slots, rules) | else-vm-at w ↦ search (slots, rules) ], search rules, search rules, search rules)
+    elim c.else-vm-at.branch [ else-vm-at-via-then-vm-at+else-vm-at-eq1 w ↦ search (slots, rules) | else-vm-at-via-else-vm-at w ↦ search (slots, rules) ]
 
-pub returns-then-i-entries : goal.returns-then-i-entries
-returns-then-i-entries c = (search rules, search (slots, rules))
+pub returns-then-vm-at-eq1-clause-found : goal.returns-then-vm-at-eq1-clause-found
+returns-then-vm-at-eq1-clause-found c = search (slots, rules)
 
-pub returns-then-vm-at-eq1 : goal.returns-then-vm-at-eq1
-returns-then-vm-at-eq1 c = (search rules, search (slots, rules))
+pub returns-clause-found : goal.returns-clause-found
+returns-clause-found c = search (slots, rules)

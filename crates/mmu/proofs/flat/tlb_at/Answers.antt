@@ -5,10 +5,10 @@ use Rattle.mmu.proofs.Flats.{read_next, read_done}
 use Rattle.mmu.proofs.flat.tlb_at.Goals as goal
 
 pub loop-i-init : goal.loop-i-init
-loop-i-init c = (sym (over_to_none _ _), search rules, search rules, search rules)
+loop-i-init c = sym (over_to_none _ _)
 
 pub loop-i-preserved : goal.loop-i-preserved
-loop-i-preserved c = (search (read_next, rules), search rules, search rules, search rules)
+loop-i-preserved c = search (read_next, rules)
 
 pub returns : goal.returns
 returns c = search (read_done, rules)

@@ -4,7 +4,7 @@
 --   permit_spots        == and so are all its bytes
 --   grant_permits       == a word that is granted lies in its page, and the check permits it
 --   grant_stays         == where none is granted nothing has changed
-use Rattle.std.specs.Prelude.{◌≡◌, ℕ, ◌%◌, ◌^◌, ◌<◌, ◌≤◌, Bool, true, false, cond, not, ◌||◌, List, length, nat_lt, refl}
+use Rattle.std.specs.Prelude.{◌≡◌, ℕ, ◌%◌, ◌^◌, ◌<◌, ◌≤◌, Bool, true, false, cond, not, ◌||◌, List, length, nat_lt, refl, Option, Some, None, Result, Ok, Err}
 use Rattle.std.proofs.Common.{sym, ◌∙◌, ⊎_elim, arith, ltb-false, le-ltb}
 use Rattle.common.specs.Cases.{bool_is, absurd_eq, and_left}
 use Rattle.common.specs.declared.Refusal.TheVariants.{Map}
@@ -22,11 +22,10 @@ use Rattle.privilege.specs.Rows.{room_of, next_page, rows_of}
 use Rattle.privilege.specs.Rows.Laws.{rows_page, rows_spots}
 use Rattle.privilege.specs.Transfer.{physical_of, spots}
 use Rattle.privilege.specs.declared.check.AccessChecked.{AccessChecked}
-use Rattle.privilege.specs.declared.check.Permission.{Permission}
-use Rattle.privilege.specs.declared.check.Permission.TheVariants.{Allowed, Denied, Refused}
+use Rattle.privilege.specs.declared.check.AccessError.{AccessError}
 use Rattle.privilege.specs.declared.flat.access.Grant.{Grant}
 
-module _ (c : AccessChecked) (a n : ℕ) (allowed : c.permission ≡ Allowed) where
+module _ (c : AccessChecked) (a n : ℕ) (allowed : c.permission ≡ Ok tt) where
   pub permit_pa : (permit_of c a n).pa ≡ physical_of c.sys a
   permit_pa = rw allowed
 
@@ -49,32 +48,32 @@ word_legal Write = refl
 word_legal Fetch = refl
 
 -- what a grant r says of the check c, by what it permits
-module _ (c : AccessChecked) (l : List ℕ) (a : ℕ) (r : Grant) (l' : List ℕ) where
-  abbrev Granted : Permission → Type 0
+module _ (c : AccessChecked) (l : List ℕ) (a : ℕ) (r : Option Grant) (l' : List ℕ) where
+  abbrev Granted : Result (Unit {0}) AccessError → Type 0
   Granted p = (r ≡ grant_if p (grant_at (physical_of c.sys a) c.reads)) × (sys_at l' ≡ left_if p c.sys (sys_at l)) × (reg_at l' ≡ reg_at l)
 
-  answers : (p : Permission) → c.permission ≡ p → Granted p → 4 ≤ room_of a → r.granted ≡ true → Answers c l a 4 (permit_for r) l'
-  answers Allowed e w room h = (rw (w.0, e, le-ltb (room_of a) 4 room), w.1, w.2)
-  answers (Denied x) e w room h = absurd_eq (cc)
-  answers (Refused x) e w room h = absurd_eq (cc)
+  answers : (p : Result (Unit {0}) AccessError) (g : Grant) → c.permission ≡ p → Granted p → 4 ≤ room_of a → r ≡ Some g → Answers c l a 4 (permit_for g) l'
+  answers (Ok tt) g e w room h =
+      let is : g ≡ grant_at (physical_of c.sys a) c.reads = cc in
+      (rw (is, e, le-ltb (room_of a) 4 room), w.1, w.2)
+  answers (Err x) g e w room h = absurd_eq (cc)
 
-  stays : (p : Permission) → c.permission ≡ p → Granted p → r.granted ≡ false → (sys_at l' ≡ sys_at l) × (reg_at l' ≡ reg_at l)
-  stays Allowed e w h = absurd_eq (cc)
-  stays (Denied x) e w h = (w.1, w.2)
-  stays (Refused x) e w h = (w.1, w.2)
+  stays : (p : Result (Unit {0}) AccessError) → c.permission ≡ p → Granted p → r ≡ None → (sys_at l' ≡ sys_at l) × (reg_at l' ≡ reg_at l)
+  stays (Ok tt) e w h = absurd_eq (cc)
+  stays (Err x) e w h = (w.1, w.2)
 
-module _ (m : Memory) (l : List ℕ) (a : ℕ) (k : Access) (r : Grant) (l' : List ℕ) (long : length l ≡ system_words) (w : Grants m l a k r l') where
+module _ (m : Memory) (l : List ℕ) (a : ℕ) (k : Access) (r : Option Grant) (l' : List ℕ) (long : length l ≡ system_words) (w : Grants m l a k r l') where
   abbrev check : AccessChecked
   check = check_legal m (sys_at l) a 4 k
 
-  pub grant_permits : map_good m ≡ true → r.granted ≡ true → (a % 4096 ≤ 4092) × Permits m l a 4 k (permit_for r) l'
-  grant_permits good h =
+  pub grant_permits : (g : Grant) → map_good m ≡ true → r ≡ Some g → (a % 4096 ≤ 4092) × Permits m l a 4 k (permit_for g) l'
+  grant_permits g good h =
       ⊎_elim
       (λ (t : at_once (sys_at l) a ≡ true).
       let inside = page t in
       let open' = check_good m (sys_at l) a 4 k (size_open m (legal_size k 4) (map_open m good) (word_legal k)) in
-      let is : Answers check l a 4 (permit_for r) l' = answers check l a r l' check.permission refl ((w.0 long).1.0 t) (omega arith) h in
-      (inside, over_all system_words l (permit_for r) (refused_as Map) l' (Answers (check_access m (sys_at l) a 4 k) l a 4 (permit_for r) l') long ((w.0 long).0 ∙ sym long) (rw open' is)))
+      let is : Answers check l a 4 (permit_for g) l' = answers check l a r l' check.permission g refl ((w.0 long).1.0 t) (omega arith) h in
+      (inside, over_all system_words l (permit_for g) (refused_as Map) l' (Answers (check_access m (sys_at l) a 4 k) l a 4 (permit_for g) l') long ((w.0 long).0 ∙ sym long) (rw open' is)))
       (λ (t : at_once (sys_at l) a ≡ false). let e = ((w.0 long).1.1 t).0 in absurd_eq (cc))
       (bool_is (at_once (sys_at l) a))
     where
@@ -85,7 +84,7 @@ module _ (m : Memory) (l : List ℕ) (a : ℕ) (k : Access) (r : Grant) (l' : Li
           off true h = absurd_eq (cc)
           off false h = refl
 
-  pub grant_stays : r.granted ≡ false → (sys_at l' ≡ sys_at l) × (reg_at l' ≡ reg_at l)
+  pub grant_stays : r ≡ None → (sys_at l' ≡ sys_at l) × (reg_at l' ≡ reg_at l)
   grant_stays h =
       ⊎_elim
       (λ (t : at_once (sys_at l) a ≡ true). stays check l a r l' check.permission refl ((w.0 long).1.0 t) h)

@@ -8,12 +8,12 @@ use native.Mathlib.Omega.{arith}
 use Rattle.tables.proofs.write.frames_for.Goals as goal
 use Rattle.tables.proofs.write.frames_for.Goals.{else-directory-last, then-directory-last}
 
-pub loop-k-init : goal.loop-k-init
+pub loop-vpn-init : goal.loop-vpn-init
 unfolding frames_for
-loop-k-init c = (refl, search rules, search rules)
+loop-vpn-init c = (refl, search rules, search rules)
 
-pub loop-k-preserved : goal.loop-k-preserved
-loop-k-preserved c = (
+pub loop-vpn-preserved : goal.loop-vpn-preserved
+loop-vpn-preserved c = (
   elim c.if-directory-last.branch [ then-directory-last w ↦ search count_new | else-directory-last w ↦ search count_same ],
   search rules,
   elim c.if-directory-last.branch [ then-directory-last w ↦ omega arith | else-directory-last w ↦ omega arith ],

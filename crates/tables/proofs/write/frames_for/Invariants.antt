@@ -1,15 +1,11 @@
 -- `tables::write::frames_for` meets its contract. The loop's invariant: the frames counted and those of the directories to come are all.
 -- Assumes nothing.
-use Prim.Native.Nat.{◌≤◌, ◌-◌, ◌+◌}
+use Prim.Native.Nat.{◌≤◌, ◌+◌}
 use mathlib.Core.Path.{◌≡◌}
 use lib.ListN.{length, drop}
 use Rattle.tables.specs.Tables.{directories_after, frames_for}
 use Rattle.tables.proofs.write.frames_for.Given as goal
 
-abbrev pub invariant-loop-k : goal.invariant-loop-k
-invariant-loop-k l =
-    (frames_for l.vpns ≡ l.used + length (directories_after l.last (drop l.k l.vpns))) × (l.k ≤ length l.vpns) × (l.used ≤ l.k + 1)
-
-abbrev pub decreases-loop-k : goal.decreases-loop-k
-decreases-loop-k l =
-    length l.vpns - l.k
+abbrev pub invariant-loop-vpn : goal.invariant-loop-vpn
+invariant-loop-vpn l =
+    (frames_for l.vpns ≡ l.used + length (directories_after l.last (drop l.vpn-index l.vpns))) × (l.vpn-index ≤ length l.vpns) × (l.used ≤ l.vpn-index + 1)

@@ -13,7 +13,3 @@ invariant-loop-directory l =
     ≡ (put_words (lent l.base l.mem) (l.first + l.directory * 4) (words_of (λ j. table_for l.first j (directories l.vpns)) (0 + l.directory) (1024 - l.directory))).bytes)
     × (l.directory ≤ 1024)
     × (length l.mem ≡ length l.initial.mem)
-
-abbrev pub decreases-loop-directory : goal.decreases-loop-directory
-decreases-loop-directory l =
-    1024 - l.directory

@@ -13,14 +13,14 @@ loop-k-init c = (refl, room_whole _ _, search rules, refl)
 pub overflow_add-frame : goal.overflow_add-frame
 overflow_add-frame c =
     let l = c.loop-k in
-    omega (arith, room_here _ l.frame 0 _ _ _ l.invariant.1 c.loop-k-test.true c.if-directory-last.true)
+    omega (arith, room_here _ l.frame 0 _ 0 _ _ l.invariant.1 c.loop-k-test.true c.if-directory-last.true)
 
 pub write_table-requires : goal.write_table-requires
 write_table-requires c =
     let l = c.loop-k in
-    let room = room_here _ l.frame 0 _ _ _ l.invariant.1 c.loop-k-test.true c.if-directory-last.true in
+    let room = room_here _ l.frame 0 _ 0 _ _ l.invariant.1 c.loop-k-test.true c.if-directory-last.true in
     let page = c.type_inv.vpns l.k in
-    (search rules, omega arith, omega arith)
+    (omega arith, search rules, omega arith)
 
 pub loop-k-preserved : goal.loop-k-preserved
 loop-k-preserved c =

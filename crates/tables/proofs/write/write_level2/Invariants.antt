@@ -1,6 +1,6 @@
 -- `tables::write::write_level2` meets its contract. The loop's invariant: the tables of the directories to come make the whole, and they have
 -- room. Assumes nothing.
-use Prim.Native.Nat.{◌≤◌, ◌-◌, ◌+◌, ◌*◌}
+use Prim.Native.Nat.{◌≤◌, ◌+◌, ◌*◌}
 use mathlib.Core.Path.{◌≡◌}
 use lib.ListN.{length, drop}
 use Rattle.memory.specs.Memory.{lent}
@@ -12,12 +12,8 @@ use Rattle.tables.proofs.write.write_level2.Given as goal
 
 abbrev pub invariant-loop-k : goal.invariant-loop-k
 invariant-loop-k l =
-    ((put_words (lent l.base l.initial.mem) (l.first + 4096) (tables_after 1024 (mappings l.vpns l.ppns l.bits))).bytes
-    ≡ (put_words (lent l.base l.mem) (l.frame + 4096) (tables_after l.last (drop l.k (mappings l.vpns l.ppns l.bits)))).bytes)
-    × Room (l.first + 4096 * frames_for l.vpns) l.frame l.last l.k l.vpns
-    × (l.k ≤ length l.vpns)
+    ((put_words (lent l.base l.initial.mem) (l.first + 4096) (tables_after 1024 (mappings l.list.vpns.now l.list.ppns.now l.list.bits.now))).bytes
+    ≡ (put_words (lent l.base l.mem) (l.frame + 4096) (tables_after l.last (drop l.k (mappings l.list.vpns.now l.list.ppns.now l.list.bits.now)))).bytes)
+    × Room (l.first + 4096 * frames_for l.list.vpns.now) l.frame l.last l.k l.list.vpns.now
+    × (l.k ≤ length l.list.vpns.now)
     × (length l.mem ≡ length l.initial.mem)
-
-abbrev pub decreases-loop-k : goal.decreases-loop-k
-decreases-loop-k l =
-    length l.vpns - l.k

@@ -10,11 +10,7 @@ use Rattle.tables.proofs.write.write_table.Given as goal
 
 abbrev pub invariant-loop-i : goal.invariant-loop-i
 invariant-loop-i l =
-    ((put_words (lent l.base l.initial.mem) l.frame (level2 l.directory (drop l.from (mappings l.vpns l.ppns l.bits)))).bytes
-    ≡ (put_words (lent l.base l.mem) (l.frame + l.i * 4) (words_of (λ v. leaf_at v (drop l.from (mappings l.vpns l.ppns l.bits))) (l.directory * 1024 + l.i) (1024 - l.i))).bytes)
+    ((put_words (lent l.base l.initial.mem) l.frame (level2 l.directory (drop l.from (mappings l.list.vpns.now l.list.ppns.now l.list.bits.now)))).bytes
+    ≡ (put_words (lent l.base l.mem) (l.frame + l.i * 4) (words_of (λ v. leaf_at v (drop l.from (mappings l.list.vpns.now l.list.ppns.now l.list.bits.now))) (l.directory * 1024 + l.i) (1024 - l.i))).bytes)
     × (l.i ≤ 1024)
     × (length l.mem ≡ length l.initial.mem)
-
-abbrev pub decreases-loop-i : goal.decreases-loop-i
-decreases-loop-i l =
-    1024 - l.i

@@ -1,5 +1,4 @@
 -- `machine::flat::access::access_event` meets its contract: a word that is granted at once is stored or read; the check decides any other access. Assumes nothing.
-use Rattle.std.proofs.Common.{rules}
 use Rattle.machine.proofs.Accesses.{kind_reads, word_good, event_read_word, event_written_word, event_other}
 use Rattle.machine.proofs.flat.access.access_event.Goals as goal
 
@@ -8,7 +7,7 @@ write_granted-requires c =
     let one = c in
     let g = one in
     let e = g.args.e in
-    (search rules, word_good _ _ _ _ e _ _ g.grant_word-grant.ensures one.if-grant.true)
+    word_good _ _ _ _ e _ _ g.grant_word.ensures _ one.in-Some.is
 
 pub returns-then-e-eq1 : goal.returns-then-e-eq1
 returns-then-e-eq1 c =
@@ -18,7 +17,7 @@ returns-then-e-eq1 c =
     let g = one in
     let k = g in
     let e = k.args.e in
-    event_written_word _ _ _ _ e _ _ g.grant_word-grant.ensures _ _ k.access_of-access.ensures one.if-grant.true _ test.if-e-eq1.true w.write_granted.ensures
+    event_written_word _ _ _ _ e _ _ g.grant_word.ensures _ _ k.access_of-access.ensures _ one.in-Some.is _ test.if-e-eq1.true w.write_granted.ensures
 
 pub read_granted-requires : goal.read_granted-requires
 read_granted-requires c =
@@ -27,17 +26,17 @@ read_granted-requires c =
     let g = one in
     let k = g in
     let e = k.args.e in
-    (search rules, kind_reads _ _ test.if-e-eq1.false k.access_of-access.ensures, word_good _ _ _ _ e _ _ g.grant_word-grant.ensures one.if-grant.true)
+    (kind_reads _ _ test.if-e-eq1.false k.access_of-access.ensures, word_good _ _ _ _ e _ _ g.grant_word.ensures _ one.in-Some.is)
 
-pub returns-then-grant : goal.returns-then-grant
-returns-then-grant c =
+pub returns-in-Some : goal.returns-in-Some
+returns-in-Some c =
     let w = c in
     let test = w in
     let one = test in
     let g = one in
     let k = g in
     let e = k.args.e in
-    event_read_word _ _ _ _ e _ _ g.grant_word-grant.ensures _ _ k.access_of-access.ensures one.if-grant.true test.if-e-eq1.false w.read_granted.ensures
+    event_read_word _ _ _ _ e _ _ g.grant_word.ensures _ _ k.access_of-access.ensures _ one.in-Some.is test.if-e-eq1.false w.read_granted.ensures
 
 pub returns : goal.returns
 returns c =
@@ -45,4 +44,4 @@ returns c =
     let one = w in
     let g = one in
     let e = g.args.e in
-    event_other _ _ _ _ e _ _ g.grant_word-grant.ensures _ _ one.if-grant.false _ w.access_any.ensures
+    event_other _ _ _ _ e _ _ g.grant_word.ensures _ _ one.in_default.is _ w.access_any.ensures

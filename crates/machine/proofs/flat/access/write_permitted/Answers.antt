@@ -1,13 +1,10 @@
 -- `machine::flat::access::write_permitted` meets its contract. Assumes nothing.
 use Rattle.std.proofs.Common.{rules}
-use Rattle.machine.proofs.Accesses.{writing}
+use Rattle.machine.proofs.Accesses.{writing, written_mapped}
 use Rattle.machine.proofs.flat.access.write_permitted.Goals as goal
 
-pub returns-in-Allowed : goal.returns-in-Allowed
-returns-in-Allowed c = search (writing, rules)
+pub returns-in-Ok : goal.returns-in-Ok
+returns-in-Ok c = let is = written_mapped _ _ _ c.and.ensures c.map_err.ensures.cases in search (writing, is, rules)
 
-pub returns-in-Denied : goal.returns-in-Denied
-returns-in-Denied c = search (writing, rules)
-
-pub returns-in-Refused : goal.returns-in-Refused
-returns-in-Refused c = search (writing, rules)
+pub returns-in-Err : goal.returns-in-Err
+returns-in-Err c = search (writing, rules)

@@ -3,8 +3,8 @@ use Rattle.std.proofs.Common.{rules}
 use Rattle.machine.proofs.Events.{read_shows, read_refuses}
 use Rattle.machine.proofs.flat.event.read_event.Goals as goal
 
-pub returns-in-Value : goal.returns-in-Value
-returns-in-Value c = search (read_shows, read_refuses, rules)
+pub returns-in-Ok : goal.returns-in-Ok
+returns-in-Ok c = search (read_shows, read_refuses, rules)
 
-pub returns-in-Refused : goal.returns-in-Refused
-returns-in-Refused c = search (read_shows, read_refuses, rules)
+pub returns-in-Err : goal.returns-in-Err
+returns-in-Err c = search (read_shows, read_refuses, rules)

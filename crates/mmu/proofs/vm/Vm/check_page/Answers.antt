@@ -12,16 +12,16 @@ pub offset_bounds-self-i : goal.offset_bounds-self-i
 offset_bounds-self-i c =
     let s = c.args.self in
     let n : length s.tlb ≡ 16 = search (rules, mapped_length) in
-    omega (arith, found_bound _ _ _ (sym c.in-At.ensures))
+    omega (arith, found_bound _ _ _ (sym c.in-Some.ensures))
 
 pub bounds-self-i : goal.bounds-self-i
 bounds-self-i c =
     let s = c.args.self in
     let n : length s.tlb ≡ 16 = search (rules, mapped_length) in
-    omega (arith, found_bound _ _ _ (sym c.in-At.ensures))
+    omega (arith, found_bound _ _ _ (sym c.in-Some.ensures))
 
-pub returns-in-At : goal.returns-in-At
-returns-in-At c = search page_resident
+pub returns-in-Some : goal.returns-in-Some
+returns-in-Some c = search page_resident
 
-pub returns-in-Nothing : goal.returns-in-Nothing
-returns-in-Nothing c = search page_walked
+pub returns-in-None : goal.returns-in-None
+returns-in-None c = search page_walked

@@ -15,8 +15,8 @@ pub loop-e-preserved : goal.loop-e-preserved
 loop-e-preserved c =
     (search (steps, rules), search (steps, rules), search (steps, rules), search rules, search rules, search (steps, rules))
 
-pub returns-in-Denied : goal.returns-in-Denied
-returns-in-Denied c = search (steps, rules)
+pub returns-in-Err : goal.returns-in-Err
+returns-in-Err c = search (steps, rules)
 
 pub returns-then-page-last : goal.returns-then-page-last
 returns-then-page-last c = search (steps, rules)

@@ -8,15 +8,15 @@ use Rattle.mmu.proofs.vm.Vm.frame_of.Goals as goal
 pub offset_bounds-self-i : goal.offset_bounds-self-i
 offset_bounds-self-i c =
     let n : length c.args.self.tlb ≡ 16 = search (rules, mapped_length) in
-    omega (arith, found_bound _ _ _ (sym c.in-At.ensures))
+    omega (arith, found_bound _ _ _ (sym c.in-Some.ensures))
 
 pub bounds-self-i : goal.bounds-self-i
 bounds-self-i c =
     let n : length c.args.self.tlb ≡ 16 = search (rules, mapped_length) in
-    omega (arith, found_bound _ _ _ (sym c.in-At.ensures))
+    omega (arith, found_bound _ _ _ (sym c.in-Some.ensures))
 
-pub returns-in-At : goal.returns-in-At
-returns-in-At c = search resident_frame
+pub returns-in-Some : goal.returns-in-Some
+returns-in-Some c = search resident_frame
 
-pub returns-in-Nothing : goal.returns-in-Nothing
-returns-in-Nothing c = search no_frame
+pub returns-in-None : goal.returns-in-None
+returns-in-None c = search no_frame

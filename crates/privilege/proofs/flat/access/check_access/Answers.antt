@@ -1,19 +1,22 @@
 -- `privilege::flat::access::check_access` meets its contract: let in and checked, or refused. Assumes nothing.
-use Rattle.std.proofs.Common.{rules}
-use Rattle.privilege.proofs.flat.Permits.{no_state, legal_small, permit_good, permit_refused}
+use Rattle.std.proofs.Common.{rules, ◌≡◌, length, ap, ◌∙◌}
+use Rattle.privilege.proofs.flat.Permits.{legal_small, permit_good, permit_refused, permits_over}
 use Rattle.privilege.proofs.flat.access.check_access.Goals as goal
-
-pub returns-then-sys-ne-SYSTEM_WORDS : goal.returns-then-sys-ne-SYSTEM_WORDS
-returns-then-sys-ne-SYSTEM_WORDS c = search no_state
 
 pub check_legal-requires : goal.check_legal-requires
 check_legal-requires c =
     let p = c in
-    let small = legal_small _ _ _ _ _ p.legal_size.ensures p.is_open.ensures c.if-is_open.true in
-    (search rules, small.0, small.1)
+    let small = legal_small _ _ _ _ p.legal_size.ensures _ c.in-Ok.ensures in
+    (small.0, small.1)
 
-pub returns-then-is_open : goal.returns-then-is_open
-returns-then-is_open c = search permit_good
+pub returns-in-Ok : goal.returns-in-Ok
+returns-in-Ok c =
+    let w = c.in-Some.ensures.cases in
+    let long : length c.in-Some.sys.now ≡ 135 = ap length w.same ∙ w.long in
+    permits_over _ _ _ _ _ _ _ _ w.same (permit_good _ c.in-Some.sys.now _ _ _ _ long _ c.legal_size.ensures _ _ c.in-Ok.ensures (search rules) c.check_legal.ensures)
 
-pub returns : goal.returns
-returns c = search permit_refused
+pub returns-in-Err : goal.returns-in-Err
+returns-in-Err c =
+    let w = c.in-Some.ensures.cases in
+    let long : length c.in-Some.sys.now ≡ 135 = ap length w.same ∙ w.long in
+    permits_over _ _ _ _ _ _ _ _ w.same (permit_refused _ c.in-Some.sys.now _ _ _ _ long _ c.legal_size.ensures _ c.in-Err.ensures c.refused-in-Err.ensures)

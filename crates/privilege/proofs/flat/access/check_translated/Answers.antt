@@ -3,8 +3,8 @@ use Rattle.std.proofs.Common.{rules}
 use Rattle.privilege.proofs.flat.Permits.{pages_denied, pages_in_page, pages_apart}
 use Rattle.privilege.proofs.flat.access.check_translated.Goals as goal
 
-pub returns-in-Denied : goal.returns-in-Denied
-returns-in-Denied c = search (pages_denied, rules)
+pub returns-in-Err : goal.returns-in-Err
+returns-in-Err c = search (pages_denied, rules)
 
 pub returns-then-len-addr : goal.returns-then-len-addr
 returns-then-len-addr c = search (pages_in_page, rules)

@@ -1,26 +1,23 @@
--- `privilege::flat::regions::all_allowed` meets its contract: one region grants all bytes, or they are tested one by one. The loop's invariant: the whole test is the test of the `left` bytes from `byte` on.
+-- `privilege::flat::regions::all_allowed` meets its contract: one region grants all bytes, or they are tested one by one. The loop's invariant: the whole test is the test of the bytes from byte `i` on.
 -- Assumes nothing.
-use Rattle.std.proofs.Common.{sym, refl, arith}
+use Rattle.std.proofs.Common.{◌≡◌, ◌+◌, ◌-◌, ◌%◌, ◌^◌, sym, arith}
 use Rattle.privilege.proofs.Regions.{no_byte_left, byte_allowed_lem, byte_denied}
 use Rattle.privilege.proofs.flat.regions.all_allowed.Goals as goal
 
 pub returns-then-one_grants : goal.returns-then-one_grants
 returns-then-one_grants c = sym (c.one_grants.ensures c.if-one_grants.true)
 
-pub loop-left-init : goal.loop-left-init
-loop-left-init c = refl
+pub loop-i-init : goal.loop-i-init
+loop-i-init c =
+    let n : c.args.len - 0 ≡ c.args.len = omega arith in
+    let a : (c.args.addr + 0) % 2 ^ 32 ≡ c.args.addr = omega arith in
+    rw (n, a)
 
-pub overflow_sub-left : goal.overflow_sub-left
-overflow_sub-left c = omega arith
+pub loop-i-preserved : goal.loop-i-preserved
+loop-i-preserved c = search byte_allowed_lem
 
-pub loop-left-smaller : goal.loop-left-smaller
-loop-left-smaller c = omega arith
+pub returns-then-not-byte_allowed : goal.returns-then-not-byte_allowed
+returns-then-not-byte_allowed c = search byte_denied
 
-pub loop-left-preserved : goal.loop-left-preserved
-loop-left-preserved c = search byte_allowed_lem
-
-pub returns-then-left-eq0 : goal.returns-then-left-eq0
-returns-then-left-eq0 c = search no_byte_left
-
-pub returns-else-byte_allowed : goal.returns-else-byte_allowed
-returns-else-byte_allowed c = search byte_denied
+pub returns : goal.returns
+returns c = search no_byte_left

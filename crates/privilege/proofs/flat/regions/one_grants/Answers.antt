@@ -10,14 +10,8 @@ returns-then-len-gt-CPU_RESERVED_BASE c = λ h. absurd_eq (cc)
 pub returns-then-addr-len : goal.returns-then-addr-len
 returns-then-addr-len c = λ h. absurd_eq (cc)
 
-pub loop-i-init : goal.loop-i-init
-loop-i-init c = (search rules, search rules, search rules)
-
-pub loop-i-preserved : goal.loop-i-preserved
-loop-i-preserved c = (search rules, search rules, search rules)
-
-pub returns-then-i-ge-REGION_COUNT : goal.returns-then-i-ge-REGION_COUNT
-returns-then-i-ge-REGION_COUNT c = λ h. absurd_eq (cc)
-
 pub returns-then-grants : goal.returns-then-grants
 returns-then-grants c = search (granted_whole, rules)
+
+pub returns : goal.returns
+returns c = λ h. absurd_eq (cc)

@@ -4,8 +4,4 @@ use Rattle.privilege.proofs.flat.regions.one_grants.Given as goal
 
 abbrev pub invariant-loop-i : goal.invariant-loop-i
 invariant-loop-i l =
-    (l.i ≤ 8) × (l.len ≤ 0xFFFF_0000) × (l.addr ≤ 0xFFFF_0000 - l.len)
-
-abbrev pub decreases-loop-i : goal.decreases-loop-i
-decreases-loop-i l =
-    8 - l.i
+    (l.len ≤ 0xFFFF_0000) × (l.addr ≤ 0xFFFF_0000 - l.len)

@@ -5,13 +5,13 @@ use Rattle.privilege.proofs.flat.Tables.{none_in, granted_in, not_in}
 use Rattle.privilege.proofs.flat.regions.some_grants.Goals as goal
 
 pub loop-i-init : goal.loop-i-init
-loop-i-init c = (search rules, refl)
+loop-i-init c = refl
 
 pub loop-i-preserved : goal.loop-i-preserved
-loop-i-preserved c = (search rules, search (not_in, rules))
-
-pub returns-then-i-ge-REGION_COUNT : goal.returns-then-i-ge-REGION_COUNT
-returns-then-i-ge-REGION_COUNT c = search (none_in, rules)
+loop-i-preserved c = search (not_in, rules)
 
 pub returns-then-grants : goal.returns-then-grants
 returns-then-grants c = search (granted_in, rules)
+
+pub returns : goal.returns
+returns c = search (none_in, rules)

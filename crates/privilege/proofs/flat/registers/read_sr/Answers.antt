@@ -1,10 +1,7 @@
 -- `privilege::flat::registers::read_sr` meets its contract: each arm is the definition's case of that number. Assumes nothing.
-use Rattle.privilege.proofs.flat.Numbers.{reads}
-use Rattle.std.proofs.Common.{rules}
+use Rattle.privilege.proofs.flat.Numbers.{reads, reads_as, read_unnamed}
+use Rattle.std.proofs.Common.{rules, ◌≡◌, length, ap, ◌∙◌}
 use Rattle.privilege.proofs.flat.registers.read_sr.Goals as goal
-
-pub returns-then-sys-ne-SYSTEM_WORDS : goal.returns-then-sys-ne-SYSTEM_WORDS
-returns-then-sys-ne-SYSTEM_WORDS c = search (reads, rules)
 
 pub returns-in-0 : goal.returns-in-0
 returns-in-0 c = search (reads, rules)
@@ -39,5 +36,8 @@ returns-in-67 c = search (reads, rules)
 pub returns-in-68 : goal.returns-in-68
 returns-in-68 c = search (reads, rules)
 
-pub returns-in_default : goal.returns-in_default
-returns-in_default c = search (reads, rules)
+pub returns-in_default-sr : goal.returns-in_default-sr
+returns-in_default-sr c =
+    let w = c.in-Some.ensures.cases in
+    let long : length c.in-Some.sys.now ≡ 135 = ap length w.same ∙ w.long in
+    reads_as _ _ _ _ w.same (read_unnamed _ _ long _ (search rules) c.read_region.ensures)

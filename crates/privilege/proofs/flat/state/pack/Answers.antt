@@ -1,10 +1,10 @@
 -- `privilege::flat::state::pack` meets its contract, the state and the registers. Assumes nothing.
 use Rattle.privilege.proofs.flat.States.{wholes}
-use Rattle.std.proofs.Common.{rules}
+use Rattle.std.proofs.Common.{rules, ◌≡◌, length, sym, ◌∙◌}
 use Rattle.privilege.proofs.flat.state.pack.Goals as goal
 
-pub returns-then-words-ne-SYSTEM_WORDS : goal.returns-then-words-ne-SYSTEM_WORDS
-returns-then-words-ne-SYSTEM_WORDS c = search (wholes, rules)
-
 pub returns : goal.returns
-returns c = search (wholes, rules)
+returns c =
+    let w = c.in-Some.ensures.cases in
+    let same : length c.put_state.new.words ≡ length c.args.words.now = c.put_state.array_long ∙ sym w.long in
+    search (wholes, rules)

@@ -3,11 +3,8 @@ use Rattle.privilege.proofs.flat.Banks.{traps}
 use Rattle.std.proofs.Common.{rules}
 use Rattle.privilege.proofs.flat.traps.enter_trap.Goals as goal
 
-pub returns-then-sys-ne-SYSTEM_WORDS : goal.returns-then-sys-ne-SYSTEM_WORDS
-returns-then-sys-ne-SYSTEM_WORDS c = search (traps, rules)
-
 pub returns-then-user-eq1 : goal.returns-then-user-eq1
 returns-then-user-eq1 c = search (traps, rules)
 
-pub returns : goal.returns
-returns c = search (traps, rules)
+pub returns-else-user-eq1 : goal.returns-else-user-eq1
+returns-else-user-eq1 c = search (traps, rules)

@@ -1,16 +1,10 @@
 -- `privilege::flat::traps::leave_trap` meets its contract: user mode is entered only where PU is set and U is not. Assumes nothing.
-use Rattle.privilege.proofs.flat.Banks.{lent_after, traps}
+use Rattle.privilege.proofs.flat.Banks.{traps}
 use Rattle.std.proofs.Common.{rules}
 use Rattle.privilege.proofs.flat.traps.leave_trap.Goals as goal
 
-pub returns-then-sys-ne-SYSTEM_WORDS : goal.returns-then-sys-ne-SYSTEM_WORDS
-returns-then-sys-ne-SYSTEM_WORDS c = search (traps, rules)
-
 pub returns-then-user-eq1 : goal.returns-then-user-eq1
 returns-then-user-eq1 c = search (traps, rules)
-
-pub shape_of-sys-then-pu-eq1 : goal.shape_of-sys-then-pu-eq1
-shape_of-sys-then-pu-eq1 c = search (lent_after, rules)
 
 pub returns-then-pu-eq1 : goal.returns-then-pu-eq1
 returns-then-pu-eq1 c = search (traps, rules)

@@ -2,8 +2,8 @@
 use Rattle.privilege.proofs.Checks.{let_in, shut}
 use Rattle.privilege.proofs.state.SystemState.check_access.Goals as goal
 
-pub returns-then-is_open : goal.returns-then-is_open
-returns-then-is_open c = search let_in
+pub returns-in-Ok : goal.returns-in-Ok
+returns-in-Ok c = search (let_in, c.in-Ok.ensures)
 
-pub returns : goal.returns
-returns c = search shut
+pub returns-in-Err : goal.returns-in-Err
+returns-in-Err c = search (shut, c.in-Err.ensures)

@@ -8,15 +8,15 @@ use Rattle.privilege.proofs.state.SystemState.debug_lookup.Goals as goal
 pub offset_bounds-vm-i : goal.offset_bounds-vm-i
 offset_bounds-vm-i c =
     let n : length c.args.self.vm.tlb ≡ 16 = search (rules, mapped_length) in
-    omega (arith, found_bound _ _ _ (sym c.in-At.ensures))
+    omega (arith, found_bound _ _ _ (sym c.in-Some.ensures))
 
 pub bounds-vm-i : goal.bounds-vm-i
 bounds-vm-i c =
     let n : length c.args.self.vm.tlb ≡ 16 = search (rules, mapped_length) in
-    omega (arith, found_bound _ _ _ (sym c.in-At.ensures))
+    omega (arith, found_bound _ _ _ (sym c.in-Some.ensures))
 
-pub returns-in-At : goal.returns-in-At
-returns-in-At c = search view_resident
+pub returns-in-Some : goal.returns-in-Some
+returns-in-Some c = search view_resident
 
-pub returns-in-Nothing : goal.returns-in-Nothing
-returns-in-Nothing c = search view_walked
+pub returns-in-None : goal.returns-in-None
+returns-in-None c = search view_walked

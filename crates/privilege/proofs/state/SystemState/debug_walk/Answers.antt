@@ -1,12 +1,16 @@
 -- `privilege::state::SystemState::debug_walk` meets its contract: a leaf, none, or a word that could not be read. Assumes nothing.
+use Rattle.std.proofs.Common.{◌≡◌}
+use Rattle.mmu.specs.declared.walk.WalkFault.TheVariants.{Missing, BusError}
 use Rattle.privilege.proofs.Views.{walk_mapped, walk_unmapped, walk_bus}
 use Rattle.privilege.proofs.state.SystemState.debug_walk.Goals as goal
 
-pub returns-in-Leaf : goal.returns-in-Leaf
-returns-in-Leaf c = search walk_mapped
+pub returns-in-Ok : goal.returns-in-Ok
+returns-in-Ok c = search walk_mapped
 
-pub returns-in-Missing : goal.returns-in-Missing
-returns-in-Missing c = search walk_unmapped
+pub returns-in-Err-Missing : goal.returns-in-Err-Missing
+returns-in-Err-Missing c =
+    let f : c.in-Err-Missing.field-0 ≡ Missing = rw c.in-Err-Missing.is at c.in-Err-Missing.field-0-is in search walk_unmapped
 
-pub returns-in-BusError : goal.returns-in-BusError
-returns-in-BusError c = search walk_bus
+pub returns-in-Err-BusError : goal.returns-in-Err-BusError
+returns-in-Err-BusError c =
+    let f : c.in-Err-BusError.field-0 ≡ BusError = rw c.in-Err-BusError.is at c.in-Err-BusError.field-0-is in search walk_bus

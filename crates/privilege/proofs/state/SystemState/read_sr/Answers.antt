@@ -19,15 +19,15 @@ returns-in-2 c = rw c.in-2.is
 
 pub returns-in-8 : goal.returns-in-8
 unfolding sr_read
-returns-in-8 c = c.read_user.ensures ∙ rw c.in-8.is
+returns-in-8 c = rw (c.read_user.ensures, c.in-8.is)
 
 pub returns-in-9 : goal.returns-in-9
 unfolding sr_read
-returns-in-9 c = c.read_user-in-9.ensures ∙ rw c.in-9.is
+returns-in-9 c = rw (c.read_user-in-9.ensures, c.in-9.is)
 
 pub returns-in-10 : goal.returns-in-10
 unfolding sr_read
-returns-in-10 c = c.read_user-in-10.ensures ∙ rw c.in-10.is
+returns-in-10 c = rw (c.read_user-in-10.ensures, c.in-10.is)
 
 pub returns-in-64 : goal.returns-in-64
 unfolding sr_read

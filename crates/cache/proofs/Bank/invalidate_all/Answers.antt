@@ -1,8 +1,0 @@
--- `cache::Bank::invalidate_all` meets its contract: the array that it writes is the empty bank's. Assumes nothing.
-use Rattle.std.proofs.Common.{refl}
-use Rattle.cache.specs.Bank.{no_tags}
-use Rattle.cache.proofs.Bank.invalidate_all.Goals as goal
-
-pub returns : goal.returns
-unfolding no_tags
-returns c = refl

@@ -1,0 +1,6 @@
+-- `script::header::word_at` meets its contract. Assumes nothing.
+use Rattle.script.proofs.Bytes.{word_padded}
+use Rattle.script.proofs.header.word_at.Goals as goal
+
+pub returns : goal.returns
+returns c = let e = word_padded c.args.s.now c.args.at in cc
