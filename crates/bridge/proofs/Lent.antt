@@ -1,8 +1,5 @@
 -- A machine's words in an array, which has as many as they are: a function over any words promises its equations there. Assumes nothing.
-use Prim.Native.Nat.{ℕ}
-use mathlib.Core.Path.{◌≡◌, ap}
-use mathlib.Core.List.{List}
-use lib.ListN.{length}
+use Rattle.std.proofs.Common.{ℕ, ◌≡◌, ap, List, length}
 use Rattle.layout.specs.Words.{Over}
 use Rattle.listing.specs.declared.Line.{Line}
 use Rattle.memory.specs.Memory.{lent}

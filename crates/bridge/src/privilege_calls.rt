@@ -33,7 +33,7 @@ pub struct PrivilegeState {
     pub reg: [u32; 32],
 }
 
-// One by one: `array::from_fn` says of its elements that they came from the closure, and not from which of the three lists.
+// One by one: neither by `array::from_fn`, whose contract does not tie what its closure borrows, nor by a loop over the regions did the proof close.
 fn regions_of(s: [u32; 8], e: [u32; 8], f: [u32; 8]) -> [Region; 8]
     ensures { result ≡ regions_of s e f }
 {

@@ -1,5 +1,6 @@
 // The cache as words that an owner lends: a bank has 259, its enable bit, its counts of hits and misses and its tags; the cache has 521, its
-// range, its penalty and the two banks. A function here has the name of the by-value one whose twin it is.
+// range, its penalty and the two banks. A function here has the name of the by-value one whose twin it is: that one hands the cache back, as document 01
+// wants it, and this one changes the words that C lends, where they stand.
 ghost use Rattle.std.specs.Prelude.{◌≡◌, ◌+◌, ◌≤◌, length};
 ghost use Rattle.layout.specs.Words.{Reads};
 ghost use Rattle.cache.specs.Bank.{line_of, line_stop, with_tags, line_dropped, emptied, enabled_to, stats_cleared, controlled, swept};

@@ -6,6 +6,7 @@ ghost use Rattle.std.specs.Prelude.{◌≡◌, [], ◌∷◌};
 ghost use Rattle.common.specs.Bytes.{big_endian};
 ghost use Rattle.common.specs.Refusal.{refusal_number};
 
+// These two have other numbers of bytes, and an integer type each: one function would be a trait for two calls.
 pub fn be_half(a: u8, b: u8) -> u16
     ensures { result ≡ big_endian (a ∷ b ∷ []) }
 {

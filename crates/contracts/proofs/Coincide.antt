@@ -1,10 +1,7 @@
 -- Each contract is settled, by its shape (`Shapes.antt`).
-use mathlib.Core.Bool.{true, false, false≢true}
-use mathlib.Core.Path.{◌≡◌, refl, sym, ap, ◌∙◌}
-use mathlib.Core.List.{List}
-use Prim.Native.Nat.{ℕ}
+use Rattle.std.proofs.Common.{true, false, refl, sym, ap, ◌∙◌, List, ℕ}
+use mathlib.Core.Bool.{false≢true}
 use Rattle.cache.specs.declared.CacheAccess.{CacheAccess}
-use Rattle.common.specs.declared.Refusal.{Refusal}
 use Rattle.contracts.proofs.Shapes.{answer, content, both, text, next}
 use Rattle.contracts.proofs.Words.{same_words, words, beside, memory, two, pair, reads, pages_same, grants_same, access_same, step_same, run_same, open_words}
 use Rattle.machine.specs.declared.flat.run.Listed.{Listed}

@@ -5,7 +5,7 @@
 --   both      == the answer and that content, each by its own equation
 --   text      == that content and the answer, by one equation of the pair
 --   next      == the same, where a parameter that cannot change stands in front
-use mathlib.Core.Path.{◌≡◌, sym, ◌∙◌}
+use Rattle.std.proofs.Common.{◌≡◌, sym, ◌∙◌}
 
 module _ {R M : Type 0} where
   pub answer : {f r r' : R} {m : M} → r ≡ f → r' ≡ f → ◌≡◌ {A = R × M} (r, m) (r', m)

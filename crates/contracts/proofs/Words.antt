@@ -9,19 +9,13 @@
 --
 -- An equation of each outcome with one thing makes the two outcomes equal; whether there are n words is decided, so the answer is equal either way. Assumes
 -- nothing.
-use Rattle.std.specs.Prelude.{Option}
-use Prim.Native.Nat.{ℕ}
-use mathlib.Core.Path.{◌≡◌, refl, sym, ap, ◌∙◌}
-use mathlib.Core.List.{List, ◌∷◌}
-use mathlib.Core.Bool.{true, false}
-use mathlib.Core.Logic.{◌⊎◌, inl, inr, ⊎_elim}
-use native.Mathlib.Omega.{arith}
-use borrow.Author.Tests.{eqb-true, eqb-false}
+use Rattle.std.proofs.Common.{ℕ, ◌≡◌, refl, sym, ap, ◌∙◌, List, ◌∷◌, true, false, ◌⊎◌, inl, inr, ⊎_elim, arith, eqb-true, eqb, length, get_or, replicate}
+use Rattle.std.specs.Prelude.{Option, Result, Ok, Err}
+use Rattle.std.specs.Result.{result_and}
+use borrow.Author.Tests.{eqb-false}
 use borrow.Fn.Read.{r_last}
 use contract.Lifetimes.{Lfts}
 use denote.Triple.Entry.{Args}
-use lib.Dec.{eqb}
-use lib.ListN.{length, get_or, replicate}
 use Rattle.common.specs.Cases.{bool_is}
 use Rattle.layout.specs.Records.{records_of}
 use Rattle.layout.specs.Words.{word_at, Over}
@@ -34,7 +28,7 @@ use Rattle.machine.specs.declared.flat.access.Answer.{Answer}
 use Rattle.machine.specs.declared.flat.run.Listed.{Listed}
 use Rattle.machine.specs.declared.state.Machine.{Machine}
 use Rattle.machine.specs.declared.totals.Totals.{Totals}
-use Rattle.mmu.specs.Flat.{vm_words, entry_at, tlb_at, vm_at, pages_as, frame_if}
+use Rattle.mmu.specs.Flat.{vm_words, entry_at, tlb_at, vm_at, pages_as}
 use Rattle.mmu.specs.Tlb.{no_entries}
 use Rattle.mmu.specs.Vm.{flushed, frame_of}
 use Rattle.mmu.specs.declared.check.Checked.{Checked}
@@ -42,6 +36,7 @@ use Rattle.mmu.specs.declared.flat.Pages.{Pages}
 use Rattle.mmu.specs.declared.vm.Vm.{Vm}
 use Rattle.memory.specs.Memory.{Memory}
 use Rattle.mmu.specs.declared.exception.Access.{Access}
+use Rattle.mmu.specs.declared.exception.Exception.{Exception}
 use Rattle.privilege.specs.Flat.{sys_at, reg_at}
 use Rattle.privilege.specs.Flat.Access.{at_once, GrantsWord}
 use Rattle.privilege.specs.declared.flat.access.Grant.{Grant}
@@ -98,13 +93,20 @@ reads {a = a} {b = b} {r = r} {r' = r'} {m = m} p q =
 
 -- ---- what the contracts say of both
 
--- the frame is that of the address `at` in the state after the check
-pub pages_same : (at : ℕ) {C : Checked} {Q Q' : Type 0} {w w' : Vm} {r r' : Pages} → (pages_as r w ≡ C) × Q × (r.ppn ≡ frame_if r.verdict (frame_of w at))
-    → (pages_as r' w' ≡ C) × Q' × (r'.ppn ≡ frame_if r'.verdict (frame_of w' at)) → (w ≡ w') × (r ≡ r')
-pages_same at p q =
+-- the frame is that of the address `at` in the state after the check, where the verdict allows
+framed : (at : ℕ) (w : Vm) (r : Pages) → r.frame ≡ result_and r.frame (Ok (frame_of w at)) → r.frame ≡ result_and (pages_as r w).verdict (Ok (frame_of w at))
+framed at w r e = e ∙ by r.frame
+  where
+    by : (f : Result ℕ Exception) → ◌≡◌ {A = Result ℕ Exception} (result_and f (Ok (frame_of w at))) (result_and (result_and {U = Unit {0}} f (Ok tt)) (Ok (frame_of w at)))
+    by (Ok p) = refl
+    by (Err x) = refl
+
+pub pages_same : (at : ℕ) {C : Checked} {Q Q' : Type 0} {w w' : Vm} {r r' : Pages} → (pages_as r w ≡ C) × Q × (r.frame ≡ result_and r.frame (Ok (frame_of w at)))
+    → (pages_as r' w' ≡ C) × Q' × (r'.frame ≡ result_and r'.frame (Ok (frame_of w' at))) → (w ≡ w') × (r ≡ r')
+pages_same at {w = w} {w' = w'} {r = r} {r' = r'} p q =
     let c = p.0 ∙ sym q.0 in
-    let ppn = p.2 ∙ ap (λ (x : Checked). frame_if x.verdict (frame_of x.vm at)) c ∙ sym q.2 in
-    (ap (λ (x : Checked). x.vm) c, λ i. record { verdict = (c i).verdict; ppn = ppn i; reads = (c i).reads })
+    let frame = framed at w r p.2 ∙ ap (λ (x : Checked). result_and x.verdict (Ok (frame_of x.vm at))) c ∙ sym (framed at w' r' q.2) in
+    (ap (λ (x : Checked). x.vm) c, λ i. record { frame = frame i; reads = (c i).reads })
 
 -- a word is asked for at once or it is not
 pub grants_same : (m : Memory) (l : List ℕ) (a : ℕ) (k : Access) (w w' : List ℕ) {g g' : Option Grant} → GrantsWord m l a k g w → GrantsWord m l a k g' w'

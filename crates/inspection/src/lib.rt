@@ -3,24 +3,19 @@
 // The state lines are a test instrument: they are safe, and what they show no definition says.
 #![tactic(auto)]
 
+mod buffer;
 mod changes;
-mod field;
 mod state;
 
+use buffer::Buffer;
 use listing::{Line, put_end, put_line, put_refused};
 use machine::state::Machine;
 use script::event_at;
 use script::header::{Header, copy_image, event_place, header_of};
+use state::State;
+use std::fmt::Write as _;
 use std::io;
 use std::io::Write;
-use text::put_bytes;
-
-fn write_front<W: Write>(to: &mut W, out: &[u8], end: usize) -> io::Result<()> {
-    if end <= out.len() {
-        return to.write_all(&out[..end]);
-    }
-    Ok(())
-}
 
 // An event's line, and of the state after it the lines that `before` has not. Where only changes are wanted, that state is the next one's
 // `before`; else `before` stays without a line, so that all are shown.
@@ -28,33 +23,33 @@ fn show_event<W: Write>(
     to: &mut W,
     k: u32,
     line: Line,
-    m: &Machine,
-    mem: &[u8],
-    before: &mut [u8],
+    state: State,
+    before: &mut Buffer,
     only_changes: bool,
 ) -> io::Result<()> {
-    let mut text = [0u8; state::ROOM];
-    state::put_state(&mut text, 0, m, mem);
-    let mut out = [0u8; 2048];
-    let next = put_line(&mut out, 0, k, line);
-    let end = changes::put_changes(&mut out, next, &text, before);
-    write_front(to, &out, end)?;
+    let mut now = Buffer::new();
+    // It always succeeds: what has no room is left out.
+    let _ = write!(now, "{state}");
+    let mut out = Buffer::new();
+    out.filled = put_line(&mut out.bytes, 0, k, line);
+    changes::put_changes(&mut out, now.text(), before.text());
     if only_changes {
-        put_bytes(before, 0, &text);
+        *before = now;
     }
-    Ok(())
+    to.write_all(out.text())
 }
 
 fn show_end<W: Write>(to: &mut W, n: u32) -> io::Result<()> {
-    let mut out = [0u8; 32];
-    let end = put_end(&mut out, 0, n);
-    write_front(to, &out, end)
+    let mut out = Buffer::new();
+    out.filled = put_end(&mut out.bytes, 0, n);
+    to.write_all(out.text())
 }
 
+// It differs from `show_end` in one call: a closure for that would be longer than the function.
 fn show_refused<W: Write>(to: &mut W, n: u32) -> io::Result<()> {
-    let mut out = [0u8; 32];
-    let end = put_refused(&mut out, 0, n);
-    write_front(to, &out, end)
+    let mut out = Buffer::new();
+    out.filled = put_refused(&mut out.bytes, 0, n);
+    to.write_all(out.text())
 }
 
 // The memory, as long as the image, becomes the image; then each event in order.
@@ -67,20 +62,16 @@ fn show_good<W: Write>(
 ) -> io::Result<()> {
     copy_image(script, h.image_at as usize, mem);
     let mut machine = Machine::new(h.base, h.image, h.penalty);
-    let mut before = [0u8; state::ROOM];
+    let mut before = Buffer::new();
     for k in 0..h.events {
         let event = event_at(script, event_place(h, k));
         let stepped = machine.step(mem, h.base, event);
         machine = stepped.machine;
-        show_event(
-            to,
-            k,
-            stepped.line,
-            &machine,
+        let state = State {
+            machine: &machine,
             mem,
-            &mut before,
-            only_changes,
-        )?;
+        };
+        show_event(to, k, stepped.line, state, &mut before, only_changes)?;
     }
     show_end(to, h.events)
 }
@@ -89,6 +80,7 @@ fn show_script<W: Write>(to: &mut W, script: &[u8], only_changes: bool) -> io::R
     match header_of(script) {
         Err(refusal) => show_refused(to, refusal.number()),
         Ok(h) => {
+            // Room for the largest image: a library has no heap.
             let mut mem = [0u8; 32768];
             let image = h.image as usize;
             show_good(to, script, h, &mut mem[..image], only_changes)

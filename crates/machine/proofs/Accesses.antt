@@ -23,8 +23,8 @@ use Rattle.mmu.specs.declared.exception.Exception.{Exception}
 use Rattle.privilege.specs.Access.{check_access}
 use Rattle.privilege.specs.Access.Laws.{refused_nothing, allowed_size}
 use Rattle.privilege.specs.Flat.{system_words}
-use Rattle.privilege.specs.Flat.Access.{permit_of, permit_for, Permits as SysPermits, Grants as SysGrants}
-use Rattle.privilege.specs.Flat.Access.Laws.{permit_pa, permit_spots, grant_permits, grant_stays}
+use Rattle.privilege.specs.Flat.Access.{place_at, permit_of, permit_for, Permits as SysPermits, Grants as SysGrants}
+use Rattle.privilege.specs.Flat.Access.Laws.{placed, not_placed, permit_pa, permit_spots, grant_permits, grant_stays}
 use Rattle.privilege.specs.Rows.{rows_of}
 use Rattle.privilege.specs.Rows.Laws.{word_loaded, word_stored, word_left}
 use Rattle.privilege.specs.Transfer.{physical_of, spots, read_of, load_at, store_at, memory_at}
@@ -32,6 +32,7 @@ use Rattle.privilege.specs.Transfer.Laws.{spots_next}
 use Rattle.privilege.specs.declared.check.AccessChecked.{AccessChecked}
 use Rattle.privilege.specs.declared.flat.access.Grant.{Grant}
 use Rattle.privilege.specs.declared.flat.access.Permit.{Permit}
+use Rattle.privilege.specs.declared.flat.access.Place.{Place}
 use Rattle.privilege.specs.declared.state.SystemState.{SystemState}
 use Rattle.script.specs.declared.Event.{Event}
 use Rattle.machine.specs.Access.{Effect, is_read, fault_of, data_fault, access_answer, presented, asked, read_outcome, write_outcome, moved, permitted, looked_up, access_of}
@@ -111,35 +112,40 @@ module _ (m : Memory) (k : Access) (a n v : ℕ) (s : SystemState) (M : Machine)
   abbrev c : AccessChecked
   c = check_access m s a n k
 
-  answers : (o : Result (Unit {0}) AccessError) → p.permission ≡ o → c.permission ≡ o
-  answers o e = ap (λ (q : Permit). q.permission) (sym is) ∙ e
+  -- where the check has the bytes, if it allows
+  abbrev there : Place
+  there = place_at (physical_of c.sys) a n
+
+  place_is : (o : Result Place AccessError) → p.place ≡ o → result_and c.permission (Ok there) ≡ o
+  place_is o e = ap (λ (q : Permit). q.place) (sym is) ∙ e
 
   reads_same : p.reads ≡ c.reads
   reads_same = ap (λ (q : Permit). q.reads) is
 
-  failed_is : (e : AccessError) → p.permission ≡ Err e
+  fails : (e : AccessError) → p.place ≡ Err e → c.permission ≡ Err e
+  fails e h = not_placed c.permission there e (place_is (Err e) h)
+
+  failed_is : (e : AccessError) → p.place ≡ Err e
       → checked_in s M m a n v k ≡ record { accessed = accessed_as (answer_of (Err (fault_of e)) 0 p.reads) M; memory = m }
   unfolding permitted
-  failed_is (Denied e) h = rw (answers (Err (Denied e)) h, same_sys M c.sys at, reads_same)
+  failed_is (Denied e) h = rw (fails (Denied e) h, same_sys M c.sys at, reads_same)
   failed_is (Refused r) h =
-      let is : c.permission ≡ Err (Refused r) = answers (Err (Refused r)) h in
+      let is : c.permission ≡ Err (Refused r) = fails (Refused r) h in
       let none : p.reads ≡ 0 = reads_same ∙ ap (λ (c : AccessChecked). c.reads) (refused_nothing m s a n k r is) in
       rw (is, none)
 
-  module _ (h : p.permission ≡ Ok tt) (small : a < 2 ^ 32) where
+  module _ (x : Place) (h : p.place ≡ Ok x) (small : a < 2 ^ 32) where
     allowed : c.permission ≡ Ok tt
-    allowed = answers (Ok tt) h
+    allowed = (placed c.permission there x (place_is (Ok x) h)).0
 
-    bytes_are : rows_of a n p.pa p.pb ≡ looked_up c a n
-    bytes_are =
-        ap (λ (q : Permit). rows_of a n q.pa q.pb) is
-        ∙ permit_spots c a n allowed small (let q = allowed_size m s a n k allowed in omega (arith, q.1))
+    bytes_are : rows_of a n x.pa x.pb ≡ looked_up c a n
+    bytes_are = permit_spots c a n x (place_is (Ok x) h) small (let q = allowed_size m s a n k allowed in omega (arith, q.1))
 
     -- the first byte's address is the line that is presented
-    line_is : asked k M (looked_up c a n) ≡ presented k M.cache p.pa
+    line_is : asked k M (looked_up c a n) ≡ presented k M.cache x.pa
     line_is =
         let q = allowed_size m s a n k allowed in
-        first n q.0 ∙ ap (presented k M.cache) (sym (permit_pa c a n allowed) ∙ ap (λ (q : Permit). q.pa) (sym is))
+        first n q.0 ∙ ap (presented k M.cache) (sym (permit_pa c a n x (place_is (Ok x) h)))
       where
         first : (j : ℕ) → 0 < j → asked k M (spots c.sys a j) ≡ presented k M.cache (physical_of c.sys a)
         first zero z = absurd (omega arith)
@@ -151,27 +157,27 @@ module _ (m : Memory) (k : Access) (a n v : ℕ) (s : SystemState) (M : Machine)
 
     -- what is left of the machine after the cache, and of its answer
     abbrev after : Machine
-    after = with_cache M (presented k M.cache p.pa).cache
+    after = with_cache M (presented k M.cache x.pa).cache
 
     abbrev stall : ℕ
-    stall = (presented k M.cache p.pa).stall
+    stall = (presented k M.cache x.pa).stall
 
     read_is : is_read k ≡ true
-        → checked_in s M m a n v k ≡ record { accessed = accessed_as (answer_of (read_outcome (load_at m n (rows_of a n p.pa p.pb))) stall p.reads) after; memory = m }
+        → checked_in s M m a n v k ≡ record { accessed = accessed_as (answer_of (read_outcome (load_at m n (rows_of a n x.pa x.pb))) stall p.reads) after; memory = m }
     read_is r = allowed_is ∙ read_moved k M m (looked_up c a n) n v p.reads r ∙ rw (line_is, bytes_are)
 
-written_is : (m : Memory) (a n v : ℕ) (s : SystemState) (M : Machine) (p : Permit) → M.sys ≡ (check_access m s a n Write).sys
-    → p ≡ permit_of (check_access m s a n Write) a n → p.permission ≡ Ok tt → a < 2 ^ 32
+written_is : (m : Memory) (a n v : ℕ) (s : SystemState) (M : Machine) (p : Permit) (x : Place) → M.sys ≡ (check_access m s a n Write).sys
+    → p ≡ permit_of (check_access m s a n Write) a n → p.place ≡ Ok x → a < 2 ^ 32
     → checked_in s M m a n v Write
     ≡ record {
       accessed =
-          accessed_as (answer_of (write_outcome (store_at m n (rows_of a n p.pa p.pb))) (presented Write M.cache p.pa).stall p.reads)
-          (with_cache M (presented Write M.cache p.pa).cache);
-      memory = memory_at m n (rows_of a n p.pa p.pb) v;
+          accessed_as (answer_of (write_outcome (store_at m n (rows_of a n x.pa x.pb))) (presented Write M.cache x.pa).stall p.reads)
+          (with_cache M (presented Write M.cache x.pa).cache);
+      memory = memory_at m n (rows_of a n x.pa x.pb) v;
     }
-written_is m a n v s M p at is h small =
-    allowed_is m Write a n v s M p at is h small ∙ write_moved M m (looked_up (check_access m s a n Write) a n) n v p.reads
-    ∙ rw (line_is m Write a n v s M p at is h small, bytes_are m Write a n v s M p at is h small)
+written_is m a n v s M p x at is h small =
+    allowed_is m Write a n v s M p at is x h small ∙ write_moved M m (looked_up (check_access m s a n Write) a n) n v p.reads
+    ∙ rw (line_is m Write a n v s M p at is x h small, bytes_are m Write a n v s M p at is x h small)
 
 -- ---- a load or fetch on the words
 
@@ -179,13 +185,13 @@ abbrev accessed : Effect → Accessed
 accessed r = r.accessed
 
 module _ (l : List ℕ) (m : Memory) (a n : ℕ) (k : Access) (p : Permit) (r : Answer) where
-  pub reads_failed : (e : AccessError) (x : Fault) → p.permission ≡ Err e → x ≡ fault_of e → r ≡ answer_of (Err x) 0 p.reads → ReadsPermitted l l m a n k p r
+  pub reads_failed : (e : AccessError) (x : Fault) → p.place ≡ Err e → x ≡ fault_of e → r ≡ answer_of (Err x) 0 p.reads → ReadsPermitted l l m a n k p r
   reads_failed e x h g j = (refl, λ s at is. rw (j, g) (sym (ap accessed (failed_is m k a n 0 s (machine_at l) p at is e h))))
 
-  pub reads_allowed : (l₁ : List ℕ) (stall : ℕ) (d : Result ℕ DataError) (o : Result ℕ Fault) → is_read k ≡ true → a < 2 ^ 32 → p.permission ≡ Ok tt → Asks l l₁ k p.pa stall
-      → d ≡ load_at m n (rows_of a n p.pa p.pb) → o ≡ read_outcome d → r ≡ answer_of o stall p.reads → ReadsPermitted l l₁ m a n k p r
-  reads_allowed l₁ stall d o read small h w e q j =
-      (w.0.0, λ s at is. rw (j, q, e, w.0.1, w.1) (sym (ap accessed (read_is m k a n 0 s (machine_at l) p at is h small read))))
+  pub reads_allowed : (x : Place) (l₁ : List ℕ) (stall : ℕ) (d : Result ℕ DataError) (o : Result ℕ Fault) → is_read k ≡ true → a < 2 ^ 32 → p.place ≡ Ok x → Asks l l₁ k x.pa stall
+      → d ≡ load_at m n (rows_of a n x.pa x.pb) → o ≡ read_outcome d → r ≡ answer_of o stall p.reads → ReadsPermitted l l₁ m a n k p r
+  reads_allowed x l₁ stall d o read small h w e q j =
+      (w.0.0, λ s at is. rw (j, q, e, w.0.1, w.1) (sym (ap accessed (read_is m k a n 0 s (machine_at l) p at is x h small read))))
 
 pub ruleset reading = (reads_failed, reads_allowed)
 
@@ -197,14 +203,14 @@ module _ (l : List ℕ) (m : Memory) (a n v : ℕ) (p : Permit) (r : Answer) (by
       → (accessed_as r (machine_at l₁) ≡ (checked_in s (machine_at l) m a n v Write).accessed) × (bytes ≡ (checked_in s (machine_at l) m a n v Write).memory.bytes)
   parts l₁ s x e q b = (q ∙ sym (ap accessed e), b ∙ sym (ap (λ (y : Effect). y.memory.bytes) e))
 
-  pub writes_failed : (e : AccessError) (x : Fault) → p.permission ≡ Err e → x ≡ fault_of e → r ≡ answer_of (Err x) 0 p.reads → bytes ≡ m.bytes → WritesPermitted l l m a n v p r bytes
+  pub writes_failed : (e : AccessError) (x : Fault) → p.place ≡ Err e → x ≡ fault_of e → r ≡ answer_of (Err x) 0 p.reads → bytes ≡ m.bytes → WritesPermitted l l m a n v p r bytes
   writes_failed e x h g j b = (refl, λ s at is. parts l s _ (failed_is m Write a n v s (machine_at l) p at is e h) (rw (j, g)) b)
 
-  pub writes_allowed : (l₁ : List ℕ) (stall : ℕ) (d : Result (Unit {0}) DataError) (o : Result ℕ Fault) → a < 2 ^ 32 → p.permission ≡ Ok tt → Asks l l₁ Write p.pa stall
-      → (d ≡ store_at m n (rows_of a n p.pa p.pb)) × (bytes ≡ (memory_at m n (rows_of a n p.pa p.pb) v).bytes) → o ≡ write_outcome d → r ≡ answer_of o stall p.reads
+  pub writes_allowed : (x : Place) (l₁ : List ℕ) (stall : ℕ) (d : Result (Unit {0}) DataError) (o : Result ℕ Fault) → a < 2 ^ 32 → p.place ≡ Ok x → Asks l l₁ Write x.pa stall
+      → (d ≡ store_at m n (rows_of a n x.pa x.pb)) × (bytes ≡ (memory_at m n (rows_of a n x.pa x.pb) v).bytes) → o ≡ write_outcome d → r ≡ answer_of o stall p.reads
       → WritesPermitted l l₁ m a n v p r bytes
-  writes_allowed l₁ stall d o small h w e q j =
-      (w.0.0, λ s at is. parts l₁ s _ (written_is m a n v s (machine_at l) p at is h small) (rw (j, q, e.0, w.0.1, w.1)) e.1)
+  writes_allowed x l₁ stall d o small h w e q j =
+      (w.0.0, λ s at is. parts l₁ s _ (written_is m a n v s (machine_at l) p x at is h small) (rw (j, q, e.0, w.0.1, w.1)) e.1)
 
 pub ruleset writing = (writes_failed, writes_allowed)
 
@@ -227,13 +233,13 @@ module _ (l : List ℕ) (m : Memory) (g : Grant) (r : Answer) (good : map_good m
   pub granted_reads : (k : Access) (l₁ : List ℕ) (stall : ℕ) (x : Option ℕ) (o : Result ℕ Fault) → is_read k ≡ true → Asks l l₁ k g.pa stall → x ≡ read_at m (word_spots g.pa)
       → o ≡ ok_or x outcome.BusError → r ≡ answer_of o stall g.reads → ReadsGranted l l₁ m k g r
   granted_reads k l₁ stall x o read w is e j a at =
-      reads_allowed l m a 4 k (permit_for g) r l₁ stall (read_of x) o read at.0 refl w (rw (is, word_loaded m a g.pa 0 good at.1)) (e ∙ word_outcome x) j
+      reads_allowed l m a 4 k (permit_for g) r (record { pa = g.pa; pb = 0 }) l₁ stall (read_of x) o read at.0 refl w (rw (is, word_loaded m a g.pa 0 good at.1)) (e ∙ word_outcome x) j
 
   pub granted_writes : (v : ℕ) (bytes : List ℕ) (l₁ : List ℕ) (stall : ℕ) (all : Bool) (q : Option ℕ) (o : Result ℕ Fault) → Asks l l₁ Write g.pa stall
       → (all ≡ all_writable m (word_spots g.pa)) × (bytes ≡ (put_at m (word_spots g.pa) (bytes_of 4 v)).bytes)
       → q ≡ then_some all 0 → o ≡ ok_or q outcome.BusError → r ≡ answer_of o stall g.reads → WritesGranted l l₁ m v g r bytes
   granted_writes v bytes l₁ stall all q o w is t e j a at =
-      writes_allowed l m a 4 v (permit_for g) r bytes l₁ stall (cond all (Ok tt) (Err missing.BusError)) o at.0 refl w
+      writes_allowed l m a 4 v (permit_for g) r bytes (record { pa = g.pa; pb = 0 }) l₁ stall (cond all (Ok tt) (Err missing.BusError)) o at.0 refl w
       (rw (is.0, word_stored m a g.pa 0 good at.1), is.1 ∙ rw (word_left m a g.pa 0 good at.1 v)) (rw t at e ∙ stored_outcome all) j
 
 module _ (l : List ℕ) (m : Memory) (a n : ℕ) (k : Access) where

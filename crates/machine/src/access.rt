@@ -1,8 +1,8 @@
 // The combined access, by value: check; the cache once, at the first byte's physical address; memory. A denied check touches neither.
-ghost use Rattle.std.specs.Prelude.{◌≡◌};
+ghost use Rattle.std.specs.Prelude.{◌≡◌, true};
 ghost use Rattle.memory.specs.Memory.{lent};
 ghost use Rattle.mmu.specs.declared.exception.Access.TheVariants.{Read, Write, Fetch};
-ghost use Rattle.machine.specs.Access.{access_of, fault_of, data_fault};
+ghost use Rattle.machine.specs.Access.{access_of, fault_of, data_fault, is_read};
 ghost use Rattle.machine.specs.Flat.{accessed_as};
 
 use crate::flat;
@@ -10,7 +10,7 @@ use crate::flat::access::Answer;
 use crate::flat::state::{STATE_WORDS, pack, unpack};
 use crate::state::Machine;
 use common::Refusal;
-use mmu::exception::Exception;
+use mmu::exception::{Access, Exception};
 use privilege::check::AccessError;
 use privilege::transfer::DataError;
 
@@ -67,22 +67,27 @@ fn with_machine(machine: Machine, answer: Answer) -> Accessed
 // Each of these packs, goes where the words stand and unpacks, as a step and a run do. No closure takes that way for them all: what one changes of
 // the memory that it borrows stands in no contract.
 impl Machine {
-    pub fn load(self, mem: &[u8], base: u32, addr: u32, size: u32) -> Accessed
-        ensures { result ≡ (access_of Read self (lent base mem.now) addr size 0).accessed }
+    // A load or fetch.
+    fn read(self, mem: &[u8], base: u32, addr: u32, size: u32, access: Access) -> Accessed
+        requires { is_read access ≡ true }
+        ensures { result ≡ (access_of access self (lent base mem.now) addr size 0).accessed }
     {
         let mut state = [0u32; STATE_WORDS];
         pack(&mut state, self);
-        let answer = flat::access::load(&mut state, mem, base, addr, size);
+        let answer = flat::access::read(&mut state, mem, base, addr, size, access);
         with_machine(unpack(&state), answer)
+    }
+
+    pub fn load(self, mem: &[u8], base: u32, addr: u32, size: u32) -> Accessed
+        ensures { result ≡ (access_of Read self (lent base mem.now) addr size 0).accessed }
+    {
+        self.read(mem, base, addr, size, Access::Read)
     }
 
     pub fn fetch(self, mem: &[u8], base: u32, addr: u32, size: u32) -> Accessed
         ensures { result ≡ (access_of Fetch self (lent base mem.now) addr size 0).accessed }
     {
-        let mut state = [0u32; STATE_WORDS];
-        pack(&mut state, self);
-        let answer = flat::access::fetch(&mut state, mem, base, addr, size);
-        with_machine(unpack(&state), answer)
+        self.read(mem, base, addr, size, Access::Fetch)
     }
 
     // The low `size` bytes of `value` go to memory, as many as the map has.

@@ -67,6 +67,7 @@ pub fn list(script: &[u8], out: &mut [u8]) -> usize
 {
     match header_of(script) {
         Ok(h) => {
+            // Room for the largest image: a library has no heap.
             let mut mem = [0u8; 32768];
             list_good(script, h, &mut mem[..h.image as usize], out)
         }

@@ -2,6 +2,7 @@
 use Rattle.std.proofs.Common.{◌≡◌, ℕ, ◌+◌, ◌-◌, ◌*◌, ◌/◌, ◌%◌, ◌^◌, ◌<◌, ◌≤◌, Bool, true, false, cond, eqb, List, [], ◌∷◌, length, get_or, drop, set, sym, refl, ap, ◌∙◌, arith, length-set, get_or-set_same, eq-eqb, ne_eqb, Option, Some, None, Result, Ok, Err}
 use Rattle.std.specs.Array.{IsWholeChunk}
 use Rattle.std.specs.Int.{from_bool}
+use Rattle.std.specs.Result.{result_and}
 use Rattle.common.specs.Cases.{absurd_eq}
 use Rattle.common.specs.Lists.{map_to, map_to_none, map_to_next, map_to_done, over_to, over_to_none, over_to_next, over_to_done}
 use Rattle.layout.specs.Words.{part, word_at, on_at, bit_word, Over, Reads, part_length, over_all, reads_all}
@@ -204,16 +205,38 @@ filled_frame v va e n none h =
 
 -- ---- the check of one page
 
+-- an answer and the state after it, by the verdict
+answer_as : (x : Pages) (w : Vm) (v : Result (Unit {0}) Exception) (ppn n : ℕ) → x ≡ pages_is v ppn n → pages_as x w ≡ checked w v n
+answer_as x w v ppn n e = ap (λ (y : Pages). pages_as y w) e ∙ ap (λ (u : Result (Unit {0}) Exception). checked w u n) (by v)
+  where
+    by : (u : Result (Unit {0}) Exception) → ◌≡◌ {A = Result (Unit {0}) Exception} (result_and (result_and u (Ok ppn)) (Ok tt)) u
+    by (Ok tt) = refl
+    by (Err f) = refl
+
+-- a frame that an answer has is the one that was given
+answer_frame : (x : Pages) (v : Result (Unit {0}) Exception) (ppn n f : ℕ) → x ≡ pages_is v ppn n → x.frame ≡ Ok f → ppn ≡ f
+answer_frame x v ppn n f e a = by v (sym (ap (λ (y : Pages). y.frame) e) ∙ a)
+  where
+    by : (u : Result (Unit {0}) Exception) → ◌≡◌ {A = Result ℕ Exception} (result_and u (Ok ppn)) (Ok f) → ppn ≡ f
+    by (Ok tt) q = cc
+    by (Err g) q = absurd_eq (cc)
+
+-- a denied access has none
+no_frame : {A : Type 0} (x : Pages) (v : Result (Unit {0}) Exception) (g : Exception) (n f : ℕ) → x ≡ pages_is v 0 n → v ≡ Err g → x.frame ≡ Ok f → A
+no_frame x v g n f e q a =
+    let is : ◌≡◌ {A = Result ℕ Exception} (Err g) (Ok f) = rw q at (sym (ap (λ (y : Pages). y.frame) e) ∙ a) in
+    absurd_eq (cc)
+
 module _ (m : Memory) (k : Access) (va : ℕ) (l : List ℕ) (x : Pages) where
   pub page_denied : (v : Result (Unit {0}) Exception) → 0xFFFF_0000 ≤ page_addr (va / 4096) → v ≡ faulted k true va → x ≡ pages_is v 0 0 → CheckedPage m k va (vm_at l) x (vm_at l)
-  page_denied v h q e = (page_reserved m (vm_at l) k va _ v h q (ap (λ (y : Pages). pages_as y (vm_at l)) e), λ a. absurd_eq (cc))
+  page_denied v h q e = (page_reserved m (vm_at l) k va _ v h q (answer_as x (vm_at l) v 0 0 e), λ f a. no_frame x v _ 0 f e q a)
 
   pub page_found : (s : Option ℕ) (slot : ℕ) (t : TlbEntry) (v : Result (Unit {0}) Exception) → page_addr (va / 4096) < 0xFFFF_0000 → s ≡ slot_of (vm_at l) va → s ≡ Some slot
       → t ≡ get_or (vm_at l).tlb slot no_entry → v ≡ judged t k va → x ≡ pages_is v t.ppn 0 → CheckedPage m k va (vm_at l) x (vm_at l)
   unfolding frame_of
   page_found s slot t v h f at g j e = (
-    page_resident m (vm_at l) k va _ s slot v h f at (j ∙ ap (λ (y : TlbEntry). judged y k va) g) (ap (λ (y : Pages). pages_as y (vm_at l)) e),
-    λ a. rw (← f, at, e, g),
+    page_resident m (vm_at l) k va _ s slot v h f at (j ∙ ap (λ (y : TlbEntry). judged y k va) g) (answer_as x (vm_at l) v t.ppn 0 e),
+    λ p a. rw (← f, at) (ap (λ (y : TlbEntry). y.ppn) (sym g) ∙ answer_frame x v t.ppn 0 p e a),
   )
 
   pub page_walks : (s : Option ℕ) (l' : List ℕ) → page_addr (va / 4096) < 0xFFFF_0000 → s ≡ slot_of (vm_at l) va → s ≡ None
@@ -226,17 +249,17 @@ module _ (m : Memory) (k : Access) (va : ℕ) (l : List ℕ) (x : Pages) where
     walks = is
 
     pub page_missing : (f : WalkFault) (v : Result (Unit {0}) Exception) → w.walked ≡ Err f → f ≡ walked.Missing → v ≡ faulted k false va → x ≡ pages_is v 0 w.reads → WalkedPage m k va (vm_at l) x (vm_at l)
-    page_missing f v p m' q e none = (walk_missing (vm_at l) k va _ w walks _ f v p m' q (ap (λ (y : Pages). pages_as y (vm_at l)) e), λ a. absurd_eq (cc))
+    page_missing f v p m' q e none = (walk_missing (vm_at l) k va _ w walks _ f v p m' q (answer_as x (vm_at l) v 0 w.reads e), λ g a. no_frame x v _ w.reads g e q a)
 
     pub page_bus : (f : WalkFault) → w.walked ≡ Err f → f ≡ walked.BusError → x ≡ pages_is (Err BusError) 0 w.reads → WalkedPage m k va (vm_at l) x (vm_at l)
-    page_bus f p m' e none = (walk_bus (vm_at l) k va _ w walks _ f p m' (ap (λ (y : Pages). pages_as y (vm_at l)) e), λ a. absurd_eq (cc))
+    page_bus f p m' e none = (walk_bus (vm_at l) k va _ w walks _ f p m' (answer_as x (vm_at l) (Err BusError) 0 w.reads e), λ g a. no_frame x (Err BusError) BusError w.reads g e refl a)
 
     pub page_leaf : (t : TlbEntry) (v : Result (Unit {0}) Exception) (l' : List ℕ) → w.walked ≡ Ok t → vm_at l' ≡ filled (vm_at l) t → v ≡ judged t k va
         → x ≡ pages_is v t.ppn w.reads → WalkedPage m k va (vm_at l) x (vm_at l')
     page_leaf t v l' p q j e none =
         let h = walked_matches m (vm_at l).ptbr va t (sym (ap (λ (o : WalkAnswer). o.walked) walks) ∙ p) in (
-          walk_leaf_lem (vm_at l) k va _ w walks _ t (vm_at l') v p q j (ap (λ (y : Pages). pages_as y (vm_at l')) e),
-          (λ a. rw (q, e) (filled_frame (vm_at l) va t (tlb_slots l) none h)),
+          walk_leaf_lem (vm_at l) k va _ w walks _ t (vm_at l') v p q j (answer_as x (vm_at l') v t.ppn w.reads e),
+          (λ f a. rw q (filled_frame (vm_at l) va t (tlb_slots l) none h) ∙ answer_frame x v t.ppn w.reads f e a),
         )
 
 pub ruleset pages = (page_denied, page_found, page_walks, page_missing, page_bus, page_leaf)
@@ -270,7 +293,7 @@ module _ (m : Memory) (k : Access) (va : ℕ) (l : List ℕ) (x : Option PageGra
     pub grant_resident : b ≡ true → x ≡ Some (grant_to t.ppn 0) → GrantsPage m k va (vm_at l) x (vm_at l)
     grant_resident on e =
         let open' = there (Ok tt) (judged_open t k va b is on) in
-        grant_opens _ va (vm_at l) x (vm_at l) t.ppn 0 (sym open'.0) (open'.1 refl) e
+        grant_opens _ va (vm_at l) x (vm_at l) t.ppn 0 (sym open'.0) (open'.1 t.ppn refl) e
 
     pub grant_denied : b ≡ false → x ≡ None → GrantsPage m k va (vm_at l) x (vm_at l)
     grant_denied off e = grant_shuts _ va (vm_at l) (vm_at l) x _ 0 (sym (there _ (judged_shut t k va b is off)).0) e
@@ -288,7 +311,7 @@ module _ (m : Memory) (k : Access) (va : ℕ) (l : List ℕ) (x : Option PageGra
       pub grant_leaf : (l' : List ℕ) → b ≡ true → vm_at l' ≡ filled (vm_at l) t → x ≡ Some (grant_to t.ppn w.reads) → GrantsWalk m k va (vm_at l) x (vm_at l')
       grant_leaf l' on q e none =
           let open' = page_leaf m k va l (pages_is (Ok tt) t.ppn w.reads) w is t (Ok tt) l' p q (sym (judged_open t k va b may on)) refl none in
-          grant_opens _ va (vm_at l) x (vm_at l') t.ppn w.reads (sym open'.0) (open'.1 refl) e
+          grant_opens _ va (vm_at l) x (vm_at l') t.ppn w.reads (sym open'.0) (open'.1 t.ppn refl) e
 
       pub grant_shut : b ≡ false → x ≡ None → GrantsWalk m k va (vm_at l) x (vm_at l)
       grant_shut off e none = grant_shuts _ va (vm_at l) (filled (vm_at l) t) x _ w.reads (sym (walk_leaf_lem (vm_at l) k va _ w (walks m k va l (pages_is (Ok tt) 0 0) w is) _ t (filled (vm_at l) t) _ p refl (sym (judged_shut t k va b may off)) refl)) e
@@ -310,26 +333,35 @@ module _ (m : Memory) (k : Access) (addr size : ℕ) (v₀ v v' : Vm) (page va n
   pub words_few : n ≤ 2 * page → n + x.reads ≤ 2 * (page + 1)
   words_few = reads_few m k addr size v₀ v page va n p (pages_as x v') is.0
 
-  pub words_denied : (y : Pages) (e : Exception) → x.verdict ≡ Err e → y ≡ pages_is (Err e) 0 (n + x.reads) → CheckedPages m k addr size v₀ y v'
-  words_denied y e d q =
-      (each_denied m k addr size v₀ v page va n p (pages_as x v') is.0 _ e d (ap (λ (z : Pages). pages_as z v') q), (λ a. absurd_eq (cc)), rw q)
+  pub words_denied : (y : Pages) (e : Exception) → x.frame ≡ Err e → y ≡ pages_is (Err e) 0 (n + x.reads) → CheckedPages m k addr size v₀ y v'
+  words_denied y e d q = (
+    each_denied m k addr size v₀ v page va n p (pages_as x v') is.0 _ e (ap (λ (f : Result ℕ Exception). result_and f (Ok tt)) d) (ap (λ (z : Pages). pages_as z v') q),
+    (λ f a one some. no_frame y (Err e) e (n + x.reads) f q refl a),
+    rw q,
+  )
 
-  module _ (last : ℕ) (end : last ≡ last_page addr size) (a : x.verdict ≡ Ok tt) (h : page < 2 ^ 20) where
-    pub words_last : (y : Pages) → addr < 2 ^ 32 → va / 4096 ≡ page → page ≡ last → y ≡ pages_is (Ok tt) x.ppn (n + x.reads) → CheckedPages m k addr size v₀ y v'
+  module _ (last : ℕ) (end : last ≡ last_page addr size) (frame : ℕ) (a : x.frame ≡ Ok frame) (h : page < 2 ^ 20) where
+    allowed : ◌≡◌ {A = Result (Unit {0}) Exception} (result_and x.frame (Ok tt)) (Ok tt)
+    allowed = ap (λ (f : Result ℕ Exception). result_and f (Ok tt)) a
+
+    pub words_last : (y : Pages) → addr < 2 ^ 32 → va / 4096 ≡ page → page ≡ last → y ≡ record { frame = x.frame; reads = n + x.reads } → CheckedPages m k addr size v₀ y v'
     words_last y small here e q =
-        let there : frame_of v' (page_addr (last_page addr size)) ≡ x.ppn = frame_same v' _ va (omega arith) ∙ is.1 a in (
-          each_last m k addr size v₀ v page va n p (pages_as x v') is.0 last end a h _ e (ap (λ (z : Pages). pages_as z v') q),
-          (λ ok one some. rw q (frame_same v' addr va (one_page addr size small one some ∙ sym (here ∙ e ∙ end)) ∙ is.1 a)),
-          rw q (sym there),
+        let is' : y ≡ pages_is (Ok tt) frame (n + x.reads) = q ∙ rw a in
+        let there : frame_of v' (page_addr (last_page addr size)) ≡ frame = frame_same v' _ va (omega arith) ∙ is.1 frame a in (
+          each_last m k addr size v₀ v page va n p (pages_as x v') is.0 last end allowed h _ e (answer_as y v' (Ok tt) frame (n + x.reads) is'),
+          (λ f ok one some.
+              frame_same v' addr va (one_page addr size small one some ∙ sym (here ∙ e ∙ end)) ∙ is.1 frame a
+              ∙ answer_frame y (Ok tt) frame (n + x.reads) f is' ok),
+          rw (is', there),
         )
 
     pub words_low : va / 4096 ≡ page → page + 1 < 2 ^ 20
-    words_low = next_low m k addr size v₀ v page va n p (pages_as x v') is.0 last end a h
+    words_low = next_low m k addr size v₀ v page va n p (pages_as x v') is.0 last end allowed h
 
     pub words_next : va / 4096 ≡ page → page_addr (page + 1) / 4096 ≡ page + 1
-    words_next = next_page_lem m k addr size v₀ v page va n p (pages_as x v') is.0 last end a h
+    words_next = next_page_lem m k addr size v₀ v page va n p (pages_as x v') is.0 last end allowed h
 
     pub words_more : last < 2 ^ 20 → (page ≡ last → ⊥) → From m k addr size v₀ v' (page + 1) (page_addr (page + 1)) (n + x.reads)
-    words_more = each_more m k addr size v₀ v page va n p (pages_as x v') is.0 last end a h
+    words_more = each_more m k addr size v₀ v page va n p (pages_as x v') is.0 last end allowed h
 
 pub ruleset loops = (words_fit, words_few, words_denied, words_last, words_low, words_next, words_more)

@@ -4,11 +4,10 @@
 --   entry_at w                  == the entry of four words: the valid bit, the virtual page, the physical page, the flags
 --   tlb_at t                    == the sixteen entries of 64 words
 --   vm_at l                     == the state of 69 words: the enable bit, PTBR, VFAULT, the next victim's low and high half, the TLB
---   pages_is, no_pages          == an answer of the check of pages, and the one where there are not 69 words
+--   pages_is, no_pages          == an answer of the check of pages: the frame where the verdict allows; and the one where there are not 69 words
 --   pages_as r v                == that answer and the state after it, as the check by value gives them
---   frame_if v p                == p where v allows the access, else 0
 --   CheckedPages m k a n v r v' == the check of the pages of n bytes at a takes v to v' and answers r. Where it is allowed, r's frame is that of
---                                  the last page, and so of an access that stays in its page
+--                                  the last page, and so of an access that stays in its page; a denied one has none
 --   CheckedPage, WalkedPage     == the same of one page, and of one that is not resident
 --   grant_to p n                == a grant of `grant_page`: the page leads to p, after n words read
 --   GrantedBy c va v r v'       == the check c of va's page, made in v, as a grant: where it denies, there is none and the state stays
@@ -17,6 +16,7 @@
 --   with_registers v on p f     == the same TLB with other registers
 --   dropped_word p vpn w        == the valid word of an entry of page vpn, once page p is dropped
 use Rattle.std.specs.Prelude.{◌≡◌, ℕ, ◌+◌, ◌*◌, ◌%◌, ◌^◌, ◌<◌, ◌≤◌, Bool, true, false, cond, List, ◌==◌, nat_lt, slice_set, Option, Some, None, Result, Ok, Err}
+use Rattle.std.specs.Result.{result_and}
 use Rattle.layout.specs.Records.{records_of}
 use Rattle.layout.specs.Words.{part, word_at, on_at}
 use Rattle.memory.specs.Memory.{Memory}
@@ -61,31 +61,26 @@ vm_at l =
 -- ---- what the check promises
 
 abbrev pub pages_is : Result (Unit {0}) Exception → ℕ → ℕ → Pages
-pages_is verdict ppn n = record { verdict = verdict; ppn = ppn; reads = n }
+pages_is verdict ppn n = record { frame = result_and verdict (Ok ppn); reads = n }
 
 abbrev pub no_pages : Pages
 no_pages = pages_is (Err BusError) 0 0
 
 abbrev pub pages_as : Pages → Vm → Checked
-pages_as r v = checked v r.verdict r.reads
-
--- a frame where the access is allowed
-abbrev pub frame_if : Result (Unit {0}) Exception → ℕ → ℕ
-frame_if (Ok tt) p = p
-frame_if (Err e) p = 0
+pages_as r v = checked v (result_and r.frame (Ok tt)) r.reads
 
 abbrev pub CheckedPages : Memory → Access → ℕ → ℕ → Vm → Pages → Vm → Type 0
 CheckedPages m k addr size v r v' =
     (pages_as r v' ≡ check_each m k v (pages_of addr size))
-    × (r.verdict ≡ Ok tt → addr % 4096 + size ≤ 4096 → 0 < size → frame_of v' addr ≡ r.ppn)
-    × (r.ppn ≡ frame_if r.verdict (frame_of v' (page_addr (last_page addr size))))
+    × ((ppn : ℕ) → r.frame ≡ Ok ppn → addr % 4096 + size ≤ 4096 → 0 < size → frame_of v' addr ≡ ppn)
+    × (r.frame ≡ result_and r.frame (Ok (frame_of v' (page_addr (last_page addr size)))))
 
 abbrev pub CheckedPage : Memory → Access → ℕ → Vm → Pages → Vm → Type 0
-CheckedPage m k va v r v' = (pages_as r v' ≡ check_page m v k va) × (r.verdict ≡ Ok tt → frame_of v' va ≡ r.ppn)
+CheckedPage m k va v r v' = (pages_as r v' ≡ check_page m v k va) × ((ppn : ℕ) → r.frame ≡ Ok ppn → frame_of v' va ≡ ppn)
 
 abbrev pub WalkedPage : Memory → Access → ℕ → Vm → Pages → Vm → Type 0
 WalkedPage m k va v r v' =
-    slot_of v va ≡ None → (pages_as r v' ≡ by_slot v k va (walk_of m v.ptbr va) None) × (r.verdict ≡ Ok tt → frame_of v' va ≡ r.ppn)
+    slot_of v va ≡ None → (pages_as r v' ≡ by_slot v k va (walk_of m v.ptbr va) None) × ((ppn : ℕ) → r.frame ≡ Ok ppn → frame_of v' va ≡ ppn)
 
 -- ---- a grant
 

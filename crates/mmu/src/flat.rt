@@ -42,18 +42,17 @@ const FLAGS: usize = 3;
 // What the check of an access's pages answers.
 #[derive(Drop)]
 pub struct Pages {
-    pub verdict: Result<(), Exception>,
-    // The physical page of the access's last page, 0 where the access is denied.
-    pub ppn: u32,
+    // The physical page of the access's last page.
+    pub frame: Result<u32, Exception>,
     pub reads: u32,
 }
 
+// An allowed access leads to the physical page, a denied one to none.
 fn found(verdict: Result<(), Exception>, ppn: u32, reads: u32) -> Pages
     ensures { result ≡ pages_is verdict ppn reads }
 {
     Pages {
-        verdict,
-        ppn,
+        frame: verdict.and(Ok(ppn)),
         reads,
     }
 }
@@ -91,7 +90,7 @@ fn put_entry(vm: &mut [u32; VM_WORDS], slot: usize, entry: TlbEntry)
     vm[at + FLAGS] = entry.flags;
 }
 
-// The slot of a page's first valid entry.
+// The slot of a page's first valid entry. An entry is four words, so the loop goes over the slots.
 fn slot_of(vm: &[u32; VM_WORDS], vpn: u32) -> Option<usize>
     ensures found { result ≡ first_match vpn 0 (vm_at vm.now).tlb }
     ensures few { IfSome result (λ i. i < 16) }
@@ -236,7 +235,10 @@ fn check_walk(vm: &mut [u32; VM_WORDS], mem: &[u8], base: u32, va: u32, access: 
             found(judge(entry, access, va), entry.ppn, answer.reads)
         }
         Err(WalkFault::Missing) => found(fault(access, false, va), 0, answer.reads),
-        Err(WalkFault::BusError) => found(Err(Exception::BusError), 0, answer.reads),
+        Err(WalkFault::BusError) => Pages {
+            frame: Err(Exception::BusError),
+            reads: answer.reads,
+        },
     }
 }
 
@@ -267,7 +269,10 @@ pub fn check_pages(
     ensures { Over vm_words vm.old vm.new result no_pages (CheckedPages (lent base mem.now) access addr size (vm_at vm.old) result (vm_at vm.new)) }
 {
     let Some(vm) = vm.as_mut_array::<VM_WORDS>() else {
-        return found(Err(Exception::BusError), 0, 0);
+        return Pages {
+            frame: Err(Exception::BusError),
+            reads: 0,
+        };
     };
     let last = addr.wrapping_add(size.wrapping_sub(1)) >> 12;
     let mut page = addr >> 12;
@@ -276,12 +281,15 @@ pub fn check_pages(
     loop {
         let here = check_page(vm, mem, base, va, access);
         reads += here.reads;
-        let verdict = here.verdict;
-        if let Err(e) = verdict {
-            break found(Err(e), 0, reads);
+        let frame = here.frame;
+        if let Err(e) = frame {
+            break Pages {
+                frame: Err(e),
+                reads,
+            };
         }
         if page == last {
-            break found(Ok(()), here.ppn, reads);
+            break Pages { frame, reads };
         }
         page += 1;
         va = page << 12;

@@ -4,7 +4,7 @@ ghost use Rattle.mmu.specs.Tlb.{first_match, no_entry, no_entries, dropped, drop
 
 pub const TLB_ENTRIES: usize = 16;
 
-// One translation. The flags are the R, W, X and U bits of the leaf.
+// One translation. The flags are the R, W, X and U bits of the leaf. An entry that lost its valid mark keeps its numbers.
 #[repr(C)]
 #[derive(Clone, Copy)]
 pub struct TlbEntry {

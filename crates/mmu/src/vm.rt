@@ -59,7 +59,7 @@ impl Vm {
         tlb::lookup(entries, vpn)
     }
 
-    // The page number that a resident page leads to, 0 where none is.
+    // The page number that a resident page leads to. It is 0 where none is: there the Rust reads page 0 too.
     pub fn frame_of(self, va: u32) -> u32
         ensures { result ≡ frame_of self va }
     {

@@ -19,7 +19,8 @@ use std::io::{Read, Write};
 // What is read of the input, more than the longest script has; the rest is left.
 const INPUT_MAX: u64 = 65536;
 
-// The memory, as long as the image, becomes the image; then each event in order. Nothing is written where the input is refused.
+// The memory, as long as the image, becomes the image; then each event in order. Nothing is written where the input is refused. `privilege_replay` starts
+// alike: a function for both would hand back the input, its header and the memory, and be as long.
 fn main(rt: HostRuntime) -> io::Result<()> {
     let mut input = Vec::new(rt.alloc());
     rt.stdin().take(INPUT_MAX).read_to_end(&mut input)?;

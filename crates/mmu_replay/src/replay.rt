@@ -80,6 +80,7 @@ impl Replay {
         Answer::Nothing
     }
 
+    // As in `privilege_replay`, whose digest goes on over more.
     pub fn tlb_digest(&self) -> u32 {
         let mut h = FNV_START;
         for entry in self.vm.tlb {

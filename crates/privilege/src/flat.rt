@@ -1,4 +1,5 @@
-// The privilege state as words that an owner lends, R0 to R31 with it. Each function has the name of the one that goes by value.
+// The privilege state as words that an owner lends, R0 to R31 with it. Each function has the name of the one that goes by value: that one
+// hands the state back, as document 01 wants it, and this one changes the words that C lends, where they stand.
 //
 // Words: IE, PIE, U, PU, PSM (odd where it is Short), EPC, CAUSE, the other mode's R28 to R30, the regions (START, END and FLAGS of
 // each in turn), translation's words, R0 to R31. Words of another number are left as they are.

@@ -30,7 +30,7 @@ impl Region {
         addr < self.end
     }
 
-    // START, END and FLAGS, as a register's place in its region.
+    // START, END and FLAGS, as a register's place in its region. Every number is answered, so a field is a number and no enum.
     #[tactic(auto, unfolding(crate::specs::Region::field_of))]
     pub fn field(self, field: usize) -> u32
         ensures { result ≡ field_of self field }

@@ -102,7 +102,8 @@ pub(crate) fn read_each<F: Fn(u32) -> u64>(
     Some(value)
 }
 
-// Big-endian store of 1, 2 or 4 bytes. Bytes outside are not written, the others are.
+// Big-endian store of 1, 2 or 4 bytes. Bytes outside are not written, the others are. Here and below a load is lent memory to read and a store to write,
+// so the two are no instances of one function.
 pub fn write_rows(
     mem: &mut [u8],
     base: u32,

@@ -7,7 +7,7 @@ use crate::state::{InstructionMode, SystemState};
 // First banked register: R28 (SP), R29 (FP) and R30 (GP) are banked.
 pub const BANK_FIRST: usize = 28;
 
-// What a trap or an exchange of the banks leaves: R0 to R31 beside the state.
+// What a trap or an exchange of the banks leaves: R0 to R31 beside the state, which does not hold them, as the Rust has it.
 #[derive(Drop)]
 pub struct Trapped {
     pub sys: SystemState,

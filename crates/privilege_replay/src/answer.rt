@@ -2,7 +2,7 @@
 use common::Refusal;
 use mmu::exception::Exception;
 use privilege::check::AccessError;
-use privilege::state::InstructionMode;
+use privilege::state::{InstructionMode, is_short};
 use privilege::transfer::DataError;
 use std::fmt;
 use std::fmt::{Display, Formatter};
@@ -63,7 +63,7 @@ pub struct Answer {
 impl Display for Answer {
     fn fmt<W: fmt::Write>(&self, f: &mut Formatter<W>) -> fmt::Result {
         let (letter, value) = shown(self.outcome);
-        let short = matches!(self.mode, InstructionMode::Short) as u8;
+        let short = is_short(self.mode) as u8;
         write!(f, "{letter} {value:08X} {short:X} {}", self.reads)
     }
 }

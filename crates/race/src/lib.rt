@@ -25,7 +25,6 @@ pub extern "C" fn race_run(
 {
     let len = (mem.len() % 0x1_0000_0000) as u32;
     let machine = Machine::new(base, len, penalty);
-    let mut text = [0u8; 1];
-    let ran = machine.run(mem, base, events, 0, count, &mut text[..0], 0);
+    let ran = machine.run(mem, base, events, 0, count, &mut [], 0);
     ran.totals
 }

@@ -14,7 +14,7 @@ use header::copy_image;
 
 pub const EVENT_SIZE: usize = 12;
 
-// Twelve bytes, big-endian. Which fields an event uses its kind says.
+// Twelve bytes, big-endian. Which fields an event uses its kind says. Any byte may stand as a kind: the machine refuses those that are none.
 #[derive(Clone, Copy)]
 pub struct Event {
     pub kind: u8,

@@ -10,9 +10,8 @@
 --   list_opens, opened_list                           == what is open to users is what the list opens
 use Rattle.std.specs.Prelude.{ℕ, zero, suc, ◌+◌, ◌-◌, ◌*◌, ◌/◌, ◌%◌, ◌^◌, ◌<◌, ◌≡◌, refl, List, [], ◌∷◌, eqb, Some, Ok, Err}
 use Rattle.std.proofs.Math.Path.{sym, ap}
-use Rattle.std.proofs.Common.{◌∙◌, get_or-append-add}
+use Rattle.std.proofs.Common.{◌∙◌, get_or-append-add, arith}
 use Rattle.std.proofs.Math.Bool.{true, false}
-use native.Mathlib.Omega.{arith}
 use Rattle.std.proofs.Math.ListN.{length, get_or, get_or-append}
 use Rattle.common.specs.Bits.{bit_set}
 use Rattle.common.specs.Cases.{absurd_eq, cond_holds, and_left, and_right}

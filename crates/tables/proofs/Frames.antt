@@ -3,12 +3,10 @@
 --   placed                  == where a page's leaf stands
 --   table_of, table_range   == each table has its own frame, and a word of level 1 is 0 or names one
 use Rattle.std.specs.Prelude.{ℕ, zero, suc, ◌+◌, ◌*◌, ◌/◌, ◌%◌, ◌<◌, ◌≡◌, refl, true, List, [], ◌∷◌, leb, eqb, get_or}
-use Rattle.std.proofs.Common.{sym, ◌∙◌, get_or-append-add}
+use Rattle.std.proofs.Common.{sym, ◌∙◌, get_or-append-add, arith, eq-eqb, ne_eqb}
 use Rattle.std.proofs.Math.Path.{ap}
 use Rattle.std.proofs.Math.Decide.{ℕ_discrete}
-use native.Mathlib.Omega.{arith}
 use Rattle.std.proofs.Math.ListN.{length, get_or-append}
-use borrow.Author.Tests.{eq-eqb, ne_eqb}
 use Rattle.common.specs.Cases.{cond_holds, and_right}
 use Rattle.tables.specs.declared.mapping.Mapping.{Mapping}
 use Rattle.tables.specs.Mapping.{leaf_at, ascending_from}

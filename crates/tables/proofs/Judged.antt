@@ -1,14 +1,6 @@
 -- The ways through the tests of a mapping and of the list. Assumes nothing.
-use Prim.Native.Nat.{ℕ, suc, ◌+◌, ◌*◌, ◌%◌, ◌≤◌, ◌<◌}
-use mathlib.Core.Path.{◌≡◌, refl, sym, ◌∙◌}
-use mathlib.Core.Bool.{Bool, true, false, not, ◌&&◌, ◌||◌}
-use mathlib.Core.List.{List, [], ◌∷◌}
+use Rattle.std.proofs.Common.{ℕ, suc, ◌+◌, ◌*◌, ◌%◌, ◌≤◌, ◌<◌, ◌≡◌, refl, sym, ◌∙◌, Bool, true, false, not, ◌&&◌, ◌||◌, List, [], ◌∷◌, arith, ltb, eqb, bit_and, length, get_or, drop, ltb-true, eqb-true, lt-ltb, le-ltb, le-leb, eq-eqb, ne_eqb}
 use Rattle.std.specs.List.{IsAllAdjacentAnswer}
-use native.Mathlib.Omega.{arith}
-use lib.Dec.{ltb, eqb}
-use lib.Bits.{bit_and}
-use lib.ListN.{length, get_or, drop}
-use borrow.Author.Tests.{ltb-true, eqb-true, lt-ltb, le-ltb, le-leb, eq-eqb, ne_eqb}
 use Rattle.common.specs.Bits.{bit_set}
 use Rattle.common.specs.Cases.{and_left, and_right}
 use Rattle.common.specs.Bits.Laws.{clear_bit, set_bit, flag_is, field_is}

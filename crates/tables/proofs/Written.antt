@@ -1,13 +1,5 @@
 -- The ways through the tests of the run and through the writing of words. Assumes nothing.
-use Prim.Native.Nat.{ℕ, suc, ◌+◌, ◌-◌, ◌*◌, ◌/◌, ◌≤◌, ◌<◌}
-use mathlib.Core.Path.{◌≡◌, refl, sym, ap, ◌∙◌}
-use mathlib.Core.Bool.{true}
-use mathlib.Core.List.{List, [], ◌∷◌}
-use native.Mathlib.Numerals.{add-one}
-use native.Mathlib.Omega.{arith}
-use lib.ListN.{length, get_or, drop, drop_of_length-le}
-use lib.Seq.{drop-cons}
-use borrow.Author.Tests.{eq-eqb, ne_eqb}
+use Rattle.std.proofs.Common.{ℕ, suc, ◌+◌, ◌-◌, ◌*◌, ◌/◌, ◌≤◌, ◌<◌, ◌≡◌, refl, sym, ap, ◌∙◌, true, List, [], ◌∷◌, add-one, arith, length, get_or, drop, drop_of_length-le, drop-cons, eq-eqb, ne_eqb}
 use Rattle.common.specs.Bytes.{bytes_of}
 use Rattle.memory.specs.Memory.{lent, put_at, word_spots}
 use Rattle.tables.specs.Mapping.{mapping, mappings, good_list}

@@ -36,7 +36,7 @@ impl<'a> List<'a> {
         }
     }
 
-    // Refusal 10 is given exactly where this is false.
+    // Refusal 10 is given exactly where this is false. The loop goes over the index that the three slices share.
     pub(crate) fn all_good(self) -> bool
         ensures { result ≡ all_good (mappings self.entry.vpns.now self.entry.ppns.now self.entry.bits.now) }
     {

@@ -15,7 +15,7 @@ const PAGE_SIZE: u32 = 4096;
 // Words of a table, and so pages of a directory: the pages whose level-1 word is the same.
 const TABLE_WORDS: u32 = 1024;
 
-// No page below 2^20 has this directory.
+// No page below 2^20 has this directory: the definitions count from it, so that the first page starts a table.
 const NO_DIRECTORY: u32 = 1024;
 
 // The tables stand in the first `used` frames of the run, level 1 at `ptbr`.
@@ -35,7 +35,8 @@ fn good_run(mem: &[u8], base: u32, first: u32, frames: u32) -> bool
     first % PAGE_SIZE == 0 && (frames == 0 || (first >= base && end <= map_end))
 }
 
-// Frames that the list needs: one for level 1, and one for each directory.
+// Frames that the list needs: one for level 1, and one for each directory. This, `table_word` and `write_level2` go over the directories alike, and
+// each does something else at a new one: an iterator over them would be longer than the three loops.
 fn frames_for(vpns: &[u32]) -> u32
     requires { length vpns.now ≤ 512 }
     ensures { result ≡ frames_for vpns.now }
@@ -93,7 +94,7 @@ fn write_table(mem: &mut [u8], base: u32, frame: u32, directory: u32, list: List
     }
 }
 
-// A table for each directory, in the frames after the first.
+// A table for each directory, in the frames after the first. The index is the list's: a table goes on from there.
 fn write_level2(mem: &mut [u8], base: u32, first: u32, list: List)
     requires { first + 4096 * frames_for list.vpns.now < 2 ^ 32 }
     ensures { mem.new ≡ (put_words (lent base mem.old) (first + 4096) (tables_after 1024 (mappings list.entry.vpns.now list.entry.ppns.now list.entry.bits.now))).bytes }

@@ -94,10 +94,10 @@ fn read_permitted(
     requires { is_read access ≡ true }
     ensures { ReadsPermitted state.old state.new (lent base mem.now) addr size access permit result }
 {
-    match permit.permission {
-        Ok(()) => {
-            let stall = ask(state, access, permit.pa);
-            let data = read_rows(mem, base, addr, size, permit.pa, permit.pb);
+    match permit.place {
+        Ok(place) => {
+            let stall = ask(state, access, place.pa);
+            let data = read_rows(mem, base, addr, size, place.pa, place.pb);
             answer_of(data.map_err(Fault::from), stall, permit.reads)
         }
         Err(error) => answer_of(Err(Fault::from(error)), 0, permit.reads),
@@ -116,10 +116,10 @@ fn write_permitted(
 ) -> Answer
     ensures { WritesPermitted state.old state.new (lent base mem.old) addr size value permit result mem.new }
 {
-    match permit.permission {
-        Ok(()) => {
-            let stall = ask(state, Access::Write, permit.pa);
-            let data = write_rows(mem, base, addr, size, permit.pa, permit.pb, value);
+    match permit.place {
+        Ok(place) => {
+            let stall = ask(state, Access::Write, place.pa);
+            let data = write_rows(mem, base, addr, size, place.pa, place.pb, value);
             answer_of(data.and(Ok(0)).map_err(Fault::from), stall, permit.reads)
         }
         Err(error) => answer_of(Err(Fault::from(error)), 0, permit.reads),
@@ -127,7 +127,14 @@ fn write_permitted(
 }
 
 // A load or fetch.
-fn read(state: &mut [u32], mem: &[u8], base: u32, addr: u32, size: u32, access: Access) -> Answer
+pub(crate) fn read(
+    state: &mut [u32],
+    mem: &[u8],
+    base: u32,
+    addr: u32,
+    size: u32,
+    access: Access,
+) -> Answer
     requires { is_read access ≡ true }
     ensures { AccessesAny state.old state.new access base mem.now addr size 0 result mem.now }
 {
@@ -210,7 +217,7 @@ fn read_granted(
     answer_of(content.ok_or(Fault::BusError), stall, grant.reads)
 }
 
-// A granted word, stored.
+// A granted word, stored: memory is lent to be written.
 fn write_granted(
     state: &mut [u32; STATE_WORDS],
     mem: &mut [u8],

@@ -28,7 +28,8 @@ use Rattle.privilege.specs.Access.{fetch_size, data_size, legal_size, translatin
 use Rattle.privilege.specs.Access.Laws as laws
 use Rattle.privilege.specs.Addresses.{addresses}
 use Rattle.privilege.specs.Flat.{regions_from, vm_from, system_words, regions_at, sys_at, reg_at}
-use Rattle.privilege.specs.Flat.Access.{permit_at, permit_of, bare_permit, regions_permit, pages_permit, refused_as, Translated, Answers, Permits, grant_at, GrantedBy, at_once, GrantsWord}
+use Rattle.privilege.specs.Flat.Access.{place_at, permit_at, permit_of, bare_permit, regions_permit, pages_permit, refused_as, Translated, Answers, Permits, grant_at, GrantedBy, at_once, GrantsWord}
+use Rattle.privilege.specs.Flat.Access.Laws.{placed}
 use Rattle.privilege.specs.Flat.Laws.{sys_vm, reg_vm}
 use Rattle.privilege.specs.Region.{all_allowed}
 use Rattle.privilege.specs.Rows.{room_of, next_page}
@@ -38,6 +39,7 @@ use Rattle.privilege.specs.Transfer.Laws.{physical_off, physical_on}
 use Rattle.privilege.specs.declared.check.AccessChecked.{AccessChecked}
 use Rattle.privilege.specs.declared.flat.access.Grant.{Grant}
 use Rattle.privilege.specs.declared.flat.access.Permit.{Permit}
+use Rattle.privilege.specs.declared.flat.access.Place.{Place}
 use Rattle.privilege.specs.declared.region.Region.{Region}
 use Rattle.privilege.specs.declared.state.SystemState.{SystemState}
 use Rattle.privilege.proofs.Checks.{on, off, by_regions_lem}
@@ -45,15 +47,18 @@ use Rattle.privilege.proofs.Transfers.{data_small}
 use Rattle.privilege.proofs.flat.Banks.{user_at}
 use Rattle.privilege.proofs.flat.States.{enabled_at}
 
-abbrev pub permit : Result (Unit {0}) AccessError → ℕ → ℕ → ℕ → Permit
-permit p pa pb reads = record { permission = p; pa = pa; pb = pb; reads = reads }
+abbrev pub permit : ℕ → ℕ → ℕ → Permit
+permit pa pb reads = record { place = Ok (record { pa = pa; pb = pb }); reads = reads }
+
+abbrev pub no_permit : AccessError → ℕ → Permit
+no_permit e reads = record { place = Err e; reads = reads }
 
 -- an allowed access whose bytes are where f says, in one page or over two
 module _ (f : ℕ → ℕ) (a n reads : ℕ) where
-  in_page : (pa : ℕ) → n ≤ room_of a → pa ≡ f a → permit (Ok tt) pa 0 reads ≡ permit_at (Ok tt) f a n reads
+  in_page : (pa : ℕ) → n ≤ room_of a → pa ≡ f a → permit pa 0 reads ≡ permit_at (Ok tt) f a n reads
   in_page pa h e = rw (e, le-ltb (room_of a) n h)
 
-  apart : (pa pb : ℕ) → room_of a < n → pa ≡ f a → pb ≡ f (next_page a) → permit (Ok tt) pa pb reads ≡ permit_at (Ok tt) f a n reads
+  apart : (pa pb : ℕ) → room_of a < n → pa ≡ f a → pb ≡ f (next_page a) → permit pa pb reads ≡ permit_at (Ok tt) f a n reads
   apart pa pb h e q = rw (e, q, lt-ltb (room_of a) n h)
 
 pub same_places : (p : Result (Unit {0}) AccessError) (f g : ℕ → ℕ) (a n reads : ℕ) → f a ≡ g a → f (next_page a) ≡ g (next_page a) → permit_at p f a n reads ≡ permit_at p g a n reads
@@ -62,17 +67,17 @@ same_places p f g a n reads e q = rw (e, q)
 -- ---- not translated
 
 module _ (a n : ℕ) where
-  pub bare_in_page : n ≤ room_of a → permit (Ok tt) a 0 0 ≡ bare_permit a n
+  pub bare_in_page : n ≤ room_of a → permit a 0 0 ≡ bare_permit a n
   bare_in_page h = in_page (λ (x : ℕ). x) a n 0 a h refl
 
-  pub bare_apart : (pb : ℕ) → room_of a < n → pb ≡ next_page a → permit (Ok tt) a pb 0 ≡ bare_permit a n
+  pub bare_apart : (pb : ℕ) → room_of a < n → pb ≡ next_page a → permit a pb 0 ≡ bare_permit a n
   bare_apart pb h e = apart (λ (x : ℕ). x) a n 0 a pb h refl e
 
   module _ (rs : List Region) (k : Access) (ok : Bool) (e : ok ≡ all_allowed rs k (addresses n a)) where
     pub regions_grant : (r : Permit) → r ≡ bare_permit a n → ok ≡ true → r ≡ regions_permit rs a n k
     regions_grant r is t = is ∙ rw (← e, t)
 
-    pub regions_deny : ok ≡ false → permit (Err (Denied (ProtectionFault k))) 0 0 0 ≡ regions_permit rs a n k
+    pub regions_deny : ok ≡ false → no_permit (Denied (ProtectionFault k)) 0 ≡ regions_permit rs a n k
     regions_deny t = rw (← e, t)
 
 -- ---- translated: what the check of the pages found
@@ -89,24 +94,25 @@ module _ (m : Memory) (l l' : List ℕ) (a n : ℕ) (k : Access) (f : Pages) (lo
   pub found_is : (r : Permit) → r ≡ pages_permit (pages_as f (vm_at l')) a n → Translated m l a n k r l'
   found_is r e = (e ∙ ap (λ (d : Checked). pages_permit d a n) is, ap (λ (d : Checked). d.vm) is)
 
-  pub pages_denied : (e : Exception) → f.verdict ≡ Err e → Translated m l a n k (permit (Err (Denied e)) 0 0 f.reads) l'
-  pages_denied e h = found_is (permit (Err (Denied e)) 0 0 f.reads) (rw h)
+  pub pages_denied : (e : Exception) → f.frame ≡ Err e → Translated m l a n k (no_permit (Denied e) f.reads) l'
+  pages_denied e h = found_is (no_permit (Denied e) f.reads) (rw h)
 
-  module _ (h : f.verdict ≡ Ok tt) where
+  module _ (ppn : ℕ) (h : f.frame ≡ Ok ppn) where
     abbrev places : ℕ → ℕ
     places x = joined_to (frame_of (vm_at l') x) x
 
-    pub pages_in_page : (pa : ℕ) → 0 < n → n ≤ room_of a → pa ≡ joined_to f.ppn a → Translated m l a n k (permit (Ok tt) pa 0 f.reads) l'
+    pub pages_in_page : (pa : ℕ) → 0 < n → n ≤ room_of a → pa ≡ joined_to ppn a → Translated m l a n k (permit pa 0 f.reads) l'
     pages_in_page pa some room e =
-        let frame : frame_of (vm_at l') a ≡ f.ppn = (w.0 long).1.1 h (omega arith) some in
-        found_is (permit (Ok tt) pa 0 f.reads) (in_page places a n f.reads pa room (e ∙ rw frame) ∙ rw h)
+        let frame : frame_of (vm_at l') a ≡ ppn = (w.0 long).1.1 ppn h (omega arith) some in
+        found_is (permit pa 0 f.reads) (in_page places a n f.reads pa room (e ∙ rw frame) ∙ rw h)
 
     pub pages_apart : (first pa next pb : ℕ) → a < 2 ^ 32 → n ≤ 4 → room_of a < n → Reads 69 l' first 0 (frame_of (vm_at l') a) → pa ≡ joined_to first a
-        → next ≡ next_page a → pb ≡ joined_to f.ppn next → Translated m l a n k (permit (Ok tt) pa pb f.reads) l'
+        → next ≡ next_page a → pb ≡ joined_to ppn next → Translated m l a n k (permit pa pb f.reads) l'
     pages_apart first pa next pb small few room found e at q =
-        let last : f.ppn ≡ frame_of (vm_at l') (next_page a) = (w.0 long).1.2 ∙ rw (h, last_start a n small few room) in
-        found_is (permit (Ok tt) pa pb f.reads)
-        (apart places a n f.reads pa pb room (e ∙ rw (found.0 (w.0 long).0)) (q ∙ rw (at, last)) ∙ rw h)
+        let last : ◌≡◌ {A = Result ℕ Exception} (Ok ppn) (Ok (frame_of (vm_at l') (next_page a))) = rw (h, last_start a n small few room) at (w.0 long).1.2 in
+        let same : ppn ≡ frame_of (vm_at l') (next_page a) = cc in
+        found_is (permit pa pb f.reads)
+        (apart places a n f.reads pa pb room (e ∙ rw (found.0 (w.0 long).0)) (q ∙ rw (at, same)) ∙ rw h)
 
 -- ---- the words and the state
 
@@ -155,7 +161,7 @@ module _ (m : Memory) (l : List ℕ) (a n : ℕ) (k : Access) (r : Permit) where
     user = user_at l true (eq-eqb (get_or l 2 0 % 2) 1 h)
 
     by_grant : (ok : Bool) → ok ≡ all_allowed S.regions k (addresses n a) → translating_of S ≡ false
-        → r ≡ cond ok (bare_permit a n) (permit (Err (Denied (ProtectionFault k))) 0 0 0) → Answers (check_legal m S a n k) l a n r l
+        → r ≡ cond ok (bare_permit a n) (no_permit (Denied (ProtectionFault k)) 0) → Answers (check_legal m S a n k) l a n r l
     by_grant true e t is =
         answers (Ok tt) (laws.by_regions_lem m S a n k t ∙ rw (sym (by_regions_lem S a n k true user e))) (is ∙ sym (unmoved t))
     by_grant false e t is =
@@ -230,10 +236,11 @@ permits_over m l o a n k r l' e w = rw (← e) w
 -- ---- a word that is granted at once
 
 -- the permit of an access inside its page, as a grant
-granted_as : (c : AccessChecked) (l : List ℕ) (a pa n : ℕ) (l' : List ℕ) → Answers c l a 4 (permit (Ok tt) pa 0 n) l' → GrantedBy c l a (Some (grant_at pa n)) l'
+granted_as : (c : AccessChecked) (l : List ℕ) (a pa n : ℕ) (l' : List ℕ) → Answers c l a 4 (permit pa 0 n) l' → GrantedBy c l a (Some (grant_at pa n)) l'
 granted_as c l a pa n l' w =
-    let allowed : c.permission ≡ (Ok tt) = sym (ap (λ (p : Permit). p.permission) w.0) in
-    let place : pa ≡ physical_of c.sys a = rw allowed at (ap (λ (p : Permit). p.pa) w.0) in
+    let there = placed c.permission (place_at (physical_of c.sys) a 4) _ (sym (ap (λ (p : Permit). p.place) w.0)) in
+    let allowed : c.permission ≡ (Ok tt) = there.0 in
+    let place : pa ≡ physical_of c.sys a = ap (λ (x : Place). x.pa) there.1 in
     let reads : n ≡ c.reads = ap (λ (p : Permit). p.reads) w.0 in
     (rw (allowed, place, reads), w.1 ∙ rw allowed, w.2)
 
@@ -255,7 +262,7 @@ module _ (m : Memory) (l : List ℕ) (a : ℕ) (k : Access) (r : Option Grant) w
     pub grant_bare : (get_or l 2 0 % 2 ≡ 1 → ⊥) → r ≡ Some (grant_at a 0) → GrantsWord m l a k r l
     grant_bare h e =
         asked l (rw (le-ltb 4092 (a % 4096) room, supervisor l h))
-        (rw e (granted_as (check_legal m (sys_at l) a 4 k) l a a 0 l (legal_supervisor m l a 4 k (permit (Ok tt) a 0 0) h (bare_in_page a 4 (omega arith)))))
+        (rw e (granted_as (check_legal m (sys_at l) a 4 k) l a a 0 l (legal_supervisor m l a 4 k (permit a 0 0) h (bare_in_page a 4 (omega arith)))))
 
     module _ (h : get_or l 2 0 % 2 ≡ 1) where
       pub grant_off : (get_or l vm_from 0 % 2 ≡ 1 → ⊥) → r ≡ None → GrantsWord m l a k r l
@@ -286,10 +293,10 @@ module _ (m : Memory) (l : List ℕ) (a : ℕ) (k : Access) (r : Option Grant) w
         opened p t =
             let o = grant_open c a v f p (vm_at new) page t in
             let pa : ℕ = joined_to p.ppn a in
-            let permits : permit (Ok tt) pa 0 p.reads ≡ pages_permit c a 4 =
+            let permits : permit pa 0 p.reads ≡ pages_permit c a 4 =
             in_page (λ (x : ℕ). joined_to (frame_of c.vm x) x) a 4 p.reads pa (omega arith) (rw o.1) ∙ rw (o.0, o.2) in
             granted_as (check_legal m (sys_at l) a 4 k) l a pa p.reads l'
-            (legal_translated m l a 4 k (permit (Ok tt) pa 0 p.reads) h new long g kept (permits ∙ ap (λ (d : Checked). pages_permit d a 4) (sym alone), o.3 ∙ ap (λ (d : Checked). d.vm) (sym alone)))
+            (legal_translated m l a 4 k (permit pa 0 p.reads) h new long g kept (permits ∙ ap (λ (d : Checked). pages_permit d a 4) (sym alone), o.3 ∙ ap (λ (d : Checked). d.vm) (sym alone)))
 
         shut : f ≡ None → GrantedBy (check_legal m (sys_at l) a 4 k) l a None l'
         shut t =

@@ -1,8 +1,7 @@
 -- The check of an access where the state's words stand, and where the access's bytes are.
 --
---   if_allowed p x            == x where the access is allowed, 0 where it is not
---   permit_at p at a n reads  == the permit of an access of n bytes at a, whose bytes are where `at` says: where its first byte is and, over two pages,
---                                the second page's first
+--   place_at at a n           == where n bytes at a are, each where `at` says: the first one and, over two pages, the second page's first
+--   permit_at p at a n reads  == the permit of an access of n bytes at a, whose bytes are where `at` says: their place where it is allowed
 --   permit_of C a n           == the permit that the check C comes to, by the lookups of the state that it leaves
 --   bare_permit a n           == the permit of an allowed access that is not translated
 --   regions_permit rs a n k   == a user's that is not translated, by the regions rs
@@ -17,6 +16,7 @@
 --   GrantedBy c l a r l'      == the check c as a grant: where it allows; elsewhere there is none, and the state stays
 --   Grants m l a k r l'       == what `grant_word` promises over any words
 use Rattle.std.specs.Prelude.{◌≡◌, ℕ, ◌%◌, Bool, true, false, cond, not, ◌&&◌, ◌||◌, List, nat_lt, Option, Some, None, Result, Ok, Err}
+use Rattle.std.specs.Result.{result_and}
 use Rattle.common.specs.declared.Refusal.{Refusal}
 use Rattle.common.specs.declared.Refusal.TheVariants.{Map}
 use Rattle.layout.specs.Words.{Over}
@@ -38,21 +38,20 @@ use Rattle.privilege.specs.declared.check.AccessError.TheVariants.{Denied, Refus
 use Rattle.privilege.specs.declared.check.AccessError.{AccessError}
 use Rattle.privilege.specs.declared.flat.access.Grant.{Grant}
 use Rattle.privilege.specs.declared.flat.access.Permit.{Permit}
+use Rattle.privilege.specs.declared.flat.access.Place.{Place}
 use Rattle.privilege.specs.declared.region.Region.{Region}
 use Rattle.privilege.specs.declared.state.SystemState.{SystemState}
 pub mod Laws
-
-abbrev pub if_allowed : Result (Unit {0}) AccessError → ℕ → ℕ
-if_allowed (Ok tt) x = x
-if_allowed (Err e) x = 0
 
 -- what is said of the second page is 0 where there is none
 abbrev pub if_apart : ℕ → ℕ → ℕ → ℕ
 if_apart a n x = cond (nat_lt (room_of a) n) x 0
 
+abbrev pub place_at : (ℕ → ℕ) → ℕ → ℕ → Place
+place_at at a n = record { pa = at a; pb = if_apart a n (at (next_page a)) }
+
 abbrev pub permit_at : Result (Unit {0}) AccessError → (ℕ → ℕ) → ℕ → ℕ → ℕ → Permit
-permit_at p at a n reads =
-    record { permission = p; pa = if_allowed p (at a); pb = if_allowed p (if_apart a n (at (next_page a))); reads = reads }
+permit_at p at a n reads = record { place = result_and p (Ok (place_at at a n)); reads = reads }
 
 abbrev pub permit_of : AccessChecked → ℕ → ℕ → Permit
 permit_of c a n = permit_at c.permission (physical_of c.sys) a n c.reads
@@ -64,10 +63,10 @@ abbrev pub bare_permit : ℕ → ℕ → Permit
 bare_permit a n = permit_at (Ok tt) (λ (x : ℕ). x) a n 0
 
 abbrev pub regions_permit : List Region → ℕ → ℕ → Access → Permit
-regions_permit rs a n k = cond (all_allowed rs k (addresses n a)) (bare_permit a n) (record { permission = Err (Denied (ProtectionFault k)); pa = 0; pb = 0; reads = 0 })
+regions_permit rs a n k = cond (all_allowed rs k (addresses n a)) (bare_permit a n) (record { place = Err (Denied (ProtectionFault k)); reads = 0 })
 
 abbrev pub refused_as : Refusal → Permit
-refused_as r = record { permission = Err (Refused r); pa = 0; pb = 0; reads = 0 }
+refused_as r = record { place = Err (Refused r); reads = 0 }
 
 abbrev pub Translated : Memory → List ℕ → ℕ → ℕ → Access → Permit → List ℕ → Type 0
 Translated m l a n k r l' =
@@ -85,7 +84,7 @@ abbrev pub grant_at : ℕ → ℕ → Grant
 grant_at pa n = record { pa = pa; reads = n }
 
 abbrev pub permit_for : Grant → Permit
-permit_for g = record { permission = Ok tt; pa = g.pa; pb = 0; reads = g.reads }
+permit_for g = record { place = Ok (record { pa = g.pa; pb = 0 }); reads = g.reads }
 
 abbrev pub grant_if : Result (Unit {0}) AccessError → Grant → Option Grant
 grant_if (Ok tt) g = Some g

@@ -16,13 +16,18 @@ use memory::gate::admit;
 use mmu::exception::{Access, Exception};
 use mmu::flat::{ENABLED, check_pages, frame_of, grant_page};
 
-// What the check of an access permits, and where an allowed one is: its first byte and, where it lies over two pages, the second
-// page's first. 0 stands where there is none: the specification's `permit_at` has it so, and the laws of permits rest on it.
-#[derive(Drop)]
-pub struct Permit {
-    pub permission: Result<(), AccessError>,
+// Where an allowed access is: its first byte and, where it lies over two pages, the second page's first. Of an access inside its
+// page `pb` is 0: the rows of any access are moved by both numbers.
+#[derive(Clone, Copy)]
+pub struct Place {
     pub pa: u32,
     pub pb: u32,
+}
+
+// What the check of an access permits.
+#[derive(Drop)]
+pub struct Permit {
+    pub place: Result<Place, AccessError>,
     // Table words read.
     pub reads: u32,
 }
@@ -51,9 +56,7 @@ fn refused(refusal: Refusal) -> Permit
     ensures { result ≡ refused_as refusal }
 {
     Permit {
-        permission: Err(AccessError::Refused(refusal)),
-        pa: 0,
-        pb: 0,
+        place: Err(AccessError::Refused(refusal)),
         reads: 0,
     }
 }
@@ -92,16 +95,15 @@ fn bare(addr: u32, len: u32) -> Permit
 {
     if len <= PAGE_SIZE - addr % PAGE_SIZE {
         return Permit {
-            permission: Ok(()),
-            pa: addr,
-            pb: 0,
+            place: Ok(Place { pa: addr, pb: 0 }),
             reads: 0,
         };
     }
     Permit {
-        permission: Ok(()),
-        pa: addr,
-        pb: next_page(addr),
+        place: Ok(Place {
+            pa: addr,
+            pb: next_page(addr),
+        }),
         reads: 0,
     }
 }
@@ -115,14 +117,13 @@ fn check_regions(regions: &[u32], addr: u32, len: u32, access: Access) -> Permit
         return bare(addr, len);
     }
     Permit {
-        permission: Err(AccessError::Denied(Exception::ProtectionFault(access))),
-        pa: 0,
-        pb: 0,
+        place: Err(AccessError::Denied(Exception::ProtectionFault(access))),
         reads: 0,
     }
 }
 
-// A translated access. The frame that the check found is its last page's; inside a page nothing is looked up again.
+// A translated access. The frame that the check found is its last page's; inside a page nothing is looked up again. Translation's words are a part of the
+// state's, which is lent as a slice.
 fn check_translated(
     vm: &mut [u32],
     mem: &[u8],
@@ -135,27 +136,31 @@ fn check_translated(
     ensures { Translated (lent base mem.now) vm.old addr len access result vm.new }
 {
     let found = check_pages(vm, mem, base, addr, len, access);
-    if let Err(e) = found.verdict {
-        return Permit {
-            permission: Err(AccessError::Denied(e)),
-            pa: 0,
-            pb: 0,
-            reads: found.reads,
-        };
-    }
+    let reads = found.reads;
+    let ppn = match found.frame {
+        Ok(ppn) => ppn,
+        Err(e) => {
+            return Permit {
+                place: Err(AccessError::Denied(e)),
+                reads,
+            };
+        }
+    };
     if len <= PAGE_SIZE - addr % PAGE_SIZE {
         return Permit {
-            permission: Ok(()),
-            pa: join(found.ppn, addr),
-            pb: 0,
-            reads: found.reads,
+            place: Ok(Place {
+                pa: join(ppn, addr),
+                pb: 0,
+            }),
+            reads,
         };
     }
     Permit {
-        permission: Ok(()),
-        pa: join(frame_of(vm, addr), addr),
-        pb: join(found.ppn, next_page(addr)),
-        reads: found.reads,
+        place: Ok(Place {
+            pa: join(frame_of(vm, addr), addr),
+            pb: join(ppn, next_page(addr)),
+        }),
+        reads,
     }
 }
 

@@ -1,5 +1,5 @@
 // Regions as words: START, END and FLAGS of each region in turn. They are lent as a part of the state's words, `sys[REGIONS..VM]`,
-// which is a slice: to make it an array each caller would have to rule out another length first.
+// which is a slice: to make it an array each caller would have to rule out another length first. The searches are loops, as document 01 wants them.
 ghost use Rattle.std.specs.Prelude.{◌≡◌, ◌<◌, true, length, slice_index_or, slice_set};
 ghost use Rattle.privilege.specs.Addresses.{addresses};
 ghost use Rattle.privilege.specs.Flat.{regions_at};
@@ -50,8 +50,8 @@ pub(crate) fn put_regions(words: &mut [u32], regions: [Region; 8])
     requires { length words.old ≡ 24 }
     ensures { regions_at words.new ≡ regions }
 {
-    for i in 0..REGION_COUNT {
-        put_region(words, i, regions[i]);
+    for (i, region) in regions.iter().enumerate() {
+        put_region(words, i, *region);
     }
 }
 
@@ -66,8 +66,8 @@ pub(crate) fn regions_of(words: &[u32]) -> [Region; 8]
         flags: 0,
     };
     let mut regions = [none; 8];
-    for i in 0..REGION_COUNT {
-        regions[i] = region_at(words, i);
+    for (i, region) in regions.iter_mut().enumerate() {
+        *region = region_at(words, i);
     }
     regions
 }

@@ -10,10 +10,9 @@
 --   answer_ptbr, answer_used, written_memory == what a call that was not refused answered and wrote
 use Rattle.std.specs.Prelude.{ℕ, ◌+◌, ◌*◌, ◌/◌, ◌^◌, ◌≤◌, ◌<◌, ◌≡◌, refl, List, [], ◌∷◌, ◌++◌, leb, eqb, Some, Ok}
 use Rattle.std.proofs.Math.Path.{sym, ap}
-use Rattle.std.proofs.Common.{◌∙◌, inl, inr, ⊎_elim, leb-true, eq-eqb, ne_eqb, le-leb}
+use Rattle.std.proofs.Common.{◌∙◌, inl, inr, ⊎_elim, leb-true, eq-eqb, ne_eqb, le-leb, arith}
 use Rattle.std.proofs.Math.Bool.{true}
 use Rattle.std.proofs.Math.Decide.{ℕ_discrete}
-use native.Mathlib.Omega.{arith}
 use Rattle.std.proofs.Math.ListN.{length, get_or, length-append}
 use Rattle.common.specs.Cases.{cond_holds, and_left, and_right, lt_or_ge}
 use Rattle.common.specs.Lists.{Each, each_get_d}

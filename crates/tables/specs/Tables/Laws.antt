@@ -7,11 +7,10 @@
 --   Placed                                                      == where a page's leaf stands; proofs/Frames.antt has placed, that it stands so
 --   directories_ascend, directories_small                       == the directories of ascending pages
 use Rattle.std.specs.Prelude.{ℕ, ◌+◌, ◌*◌, ◌/◌, ◌%◌, ◌^◌, ◌≤◌, ◌<◌, ◌≡◌, refl, Bool, true, false, cond, ◌&&◌, ◌||◌, List, [], ◌∷◌, ◌++◌, leb, eqb, get_or, Ok, Err}
-use Rattle.std.proofs.Common.{sym, ◌∙◌, ⊎_elim, length-append}
+use Rattle.std.proofs.Common.{sym, ◌∙◌, ⊎_elim, length-append, arith, leb-true, eqb-true, le-leb, eq-eqb, ne_eqb}
 use Rattle.std.proofs.Math.Path.{ap}
-use native.Mathlib.Omega.{arith}
 use Rattle.std.proofs.Math.ListN.{length}
-use borrow.Author.Tests.{leb-true, eqb-true, eqb-false, le-leb, eq-eqb, ne_eqb}
+use borrow.Author.Tests.{eqb-false}
 use Rattle.common.specs.Cases.{absurd_eq, cond_holds, cond_case, and_left, and_right, lt_or_ge}
 use Rattle.common.specs.Lists.{Each}
 use Rattle.memory.specs.Memory.{Memory, good_map}

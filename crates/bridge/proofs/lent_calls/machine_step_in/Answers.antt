@@ -1,5 +1,5 @@
 -- `bridge::lent_calls::machine_step_in` meets its contract: the step over the words. Assumes nothing.
-use borrow.Author.Rules.{rules}
+use Rattle.std.proofs.Common.{rules}
 use Rattle.bridge.proofs.Lent.{lent_steps}
 use Rattle.bridge.proofs.lent_calls.machine_step_in.Goals as goal
 

@@ -1,11 +1,14 @@
 -- The laws of permits. Assumes nothing.
 --
---   permit_pa           == an allowed access's first byte is where the state's lookup says
+--   placed, not_placed  == an access that has a place is allowed, and lies there; one that has none failed as its check says
+--   permit_place        == an allowed access has a place
+--   permit_pa           == there its first byte is where the state's lookup says
 --   permit_spots        == and so are all its bytes
 --   grant_permits       == a word that is granted lies in its page, and the check permits it
 --   grant_stays         == where none is granted nothing has changed
 use Rattle.std.specs.Prelude.{◌≡◌, ℕ, ◌%◌, ◌^◌, ◌<◌, ◌≤◌, Bool, true, false, cond, not, ◌||◌, List, length, nat_lt, refl, Option, Some, None, Result, Ok, Err}
-use Rattle.std.proofs.Common.{sym, ◌∙◌, ⊎_elim, arith, ltb-false, le-ltb}
+use Rattle.std.proofs.Common.{sym, ap, ◌∙◌, ⊎_elim, arith, ltb-false, le-ltb}
+use Rattle.std.specs.Result.{result_and}
 use Rattle.common.specs.Cases.{bool_is, absurd_eq, and_left}
 use Rattle.common.specs.declared.Refusal.TheVariants.{Map}
 use Rattle.layout.specs.Words.{over_all}
@@ -17,17 +20,33 @@ use Rattle.mmu.specs.declared.exception.Access.TheVariants.{Read, Write, Fetch}
 use Rattle.privilege.specs.Access.{fetch_size, data_size, legal_size, check_legal, check_access}
 use Rattle.privilege.specs.Access.Laws.{check_good}
 use Rattle.privilege.specs.Flat.{system_words, sys_at, reg_at}
-use Rattle.privilege.specs.Flat.Access.{permit_of, refused_as, Answers, Permits, permit_for, grant_at, grant_if, left_if, at_once, Grants}
+use Rattle.privilege.specs.Flat.Access.{place_at, permit_of, refused_as, Answers, Permits, permit_for, grant_at, grant_if, left_if, at_once, Grants}
 use Rattle.privilege.specs.Rows.{room_of, next_page, rows_of}
 use Rattle.privilege.specs.Rows.Laws.{rows_page, rows_spots}
 use Rattle.privilege.specs.Transfer.{physical_of, spots}
 use Rattle.privilege.specs.declared.check.AccessChecked.{AccessChecked}
 use Rattle.privilege.specs.declared.check.AccessError.{AccessError}
 use Rattle.privilege.specs.declared.flat.access.Grant.{Grant}
+use Rattle.privilege.specs.declared.flat.access.Place.{Place}
 
-module _ (c : AccessChecked) (a n : ℕ) (allowed : c.permission ≡ Ok tt) where
-  pub permit_pa : (permit_of c a n).pa ≡ physical_of c.sys a
-  permit_pa = rw allowed
+pub placed : (p : Result (Unit {0}) AccessError) (at x : Place) → ◌≡◌ {A = Result Place AccessError} (result_and p (Ok at)) (Ok x) → (p ≡ Ok tt) × (x ≡ at)
+placed (Ok tt) at x e = (refl, cc)
+placed (Err f) at x e = absurd_eq (cc)
+
+pub not_placed : (p : Result (Unit {0}) AccessError) (at : Place) (f : AccessError) → ◌≡◌ {A = Result Place AccessError} (result_and p (Ok at)) (Err f) → p ≡ Err f
+not_placed (Ok tt) at f e = absurd_eq (cc)
+not_placed (Err g) at f e = cc
+
+module _ (c : AccessChecked) (a n : ℕ) where
+  pub permit_place : c.permission ≡ Ok tt → (permit_of c a n).place ≡ Ok (place_at (physical_of c.sys) a n)
+  permit_place allowed = rw allowed
+
+module _ (c : AccessChecked) (a n : ℕ) (x : Place) (at : (permit_of c a n).place ≡ Ok x) where
+  is : x ≡ place_at (physical_of c.sys) a n
+  is = (placed c.permission (place_at (physical_of c.sys) a n) x at).1
+
+  pub permit_pa : x.pa ≡ physical_of c.sys a
+  permit_pa = ap (λ (y : Place). y.pa) is
 
   abbrev second : ℕ
   second = physical_of c.sys (next_page a)
@@ -36,8 +55,8 @@ module _ (c : AccessChecked) (a n : ℕ) (allowed : c.permission ≡ Ok tt) wher
   by_page true e = refl
   by_page false e = rows_page a (physical_of c.sys a) 0 second n (ltb-false (room_of a) n e)
 
-  pub permit_spots : a < 2 ^ 32 → n ≤ 4096 → rows_of a n (permit_of c a n).pa (permit_of c a n).pb ≡ spots c.sys a n
-  permit_spots small few = rw allowed (by_page (nat_lt (room_of a) n) refl ∙ rows_spots c.sys a small n few)
+  pub permit_spots : a < 2 ^ 32 → n ≤ 4096 → rows_of a n x.pa x.pb ≡ spots c.sys a n
+  permit_spots small few = rw is (by_page (nat_lt (room_of a) n) refl ∙ rows_spots c.sys a small n few)
 
 -- ---- a grant
 

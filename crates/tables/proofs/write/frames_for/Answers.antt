@@ -1,10 +1,8 @@
 -- `tables::write::frames_for` meets its contract. The loop's invariant: the frames counted and those of the directories to come are all.
 -- Assumes nothing.
-use mathlib.Core.Path.{refl}
+use Rattle.std.proofs.Common.{refl, rules, arith}
 use Rattle.tables.specs.Tables.{frames_for}
 use Rattle.tables.proofs.Written.{count_done, count_same, count_new}
-use borrow.Author.Rules.{rules}
-use native.Mathlib.Omega.{arith}
 use Rattle.tables.proofs.write.frames_for.Goals as goal
 use Rattle.tables.proofs.write.frames_for.Goals.{else-directory-last, then-directory-last}
 

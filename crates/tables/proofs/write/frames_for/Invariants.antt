@@ -1,8 +1,6 @@
 -- `tables::write::frames_for` meets its contract. The loop's invariant: the frames counted and those of the directories to come are all.
 -- Assumes nothing.
-use Prim.Native.Nat.{◌≤◌, ◌+◌}
-use mathlib.Core.Path.{◌≡◌}
-use lib.ListN.{length, drop}
+use Rattle.std.proofs.Common.{◌≤◌, ◌+◌, ◌≡◌, length, drop}
 use Rattle.tables.specs.Tables.{directories_after, frames_for}
 use Rattle.tables.proofs.write.frames_for.Given as goal
 

@@ -1,9 +1,7 @@
 -- `tables::write::table_word` meets its contract. The loop's invariant: the word is that of the directories to come, whose tables stand after
 -- `frame`, and they have room. Assumes nothing.
-use mathlib.Core.Path.{refl}
+use Rattle.std.proofs.Common.{refl, rules, arith}
 use Rattle.tables.proofs.Written.{room_whole, room_same, room_new, room_here, table_none, table_here, table_same, table_later}
-use borrow.Author.Rules.{rules}
-use native.Mathlib.Omega.{arith}
 use Rattle.tables.proofs.write.table_word.Goals as goal
 use Rattle.tables.proofs.write.table_word.Goals.{else-directory-last, then-directory-last+else-directory-wanted}
 

@@ -1,8 +1,6 @@
 -- `tables::write::table_word` meets its contract. The loop's invariant: the word is that of the directories to come, whose tables stand after
 -- `frame`, and they have room. Assumes nothing.
-use Prim.Native.Nat.{◌≤◌, ◌+◌, ◌*◌}
-use mathlib.Core.Path.{◌≡◌}
-use lib.ListN.{length, drop}
+use Rattle.std.proofs.Common.{◌≤◌, ◌+◌, ◌*◌, ◌≡◌, length, drop}
 use Rattle.tables.specs.Tables.{directories_after, directories, table_for, frames_for}
 use Rattle.tables.proofs.Written.{Room}
 use Rattle.tables.proofs.write.table_word.Given as goal

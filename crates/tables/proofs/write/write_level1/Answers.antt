@@ -1,10 +1,7 @@
 -- `tables::write::write_level1` meets its contract. The loop's invariant: the words to come make the whole. Assumes nothing.
-use Prim.Native.Nat.{◌+◌}
-use mathlib.Core.Path.{◌≡◌, refl}
+use Rattle.std.proofs.Common.{◌+◌, ◌≡◌, refl, rules, arith}
 use Rattle.tables.specs.Tables.{level1}
 use Rattle.tables.proofs.Written.{frames_some, words_begin, words_turn, words_end}
-use borrow.Author.Rules.{rules}
-use native.Mathlib.Omega.{arith}
 use Rattle.tables.proofs.write.write_level1.Goals as goal
 
 pub loop-directory-init : goal.loop-directory-init

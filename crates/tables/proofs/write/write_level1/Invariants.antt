@@ -1,7 +1,5 @@
 -- `tables::write::write_level1` meets its contract. The loop's invariant: the words to come make the whole. Assumes nothing.
-use Prim.Native.Nat.{◌≤◌, ◌-◌, ◌+◌, ◌*◌}
-use mathlib.Core.Path.{◌≡◌}
-use lib.ListN.{length}
+use Rattle.std.proofs.Common.{◌≤◌, ◌-◌, ◌+◌, ◌*◌, ◌≡◌, length}
 use Rattle.memory.specs.Memory.{lent}
 use Rattle.tables.specs.Words.{put_words, words_of}
 use Rattle.tables.specs.Tables.{directories, table_for, level1}

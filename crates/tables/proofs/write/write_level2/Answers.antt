@@ -1,9 +1,7 @@
 -- `tables::write::write_level2` meets its contract. The loop's invariant: the tables of the directories to come make the whole, and they have
 -- room. Assumes nothing.
-use mathlib.Core.Path.{refl}
+use Rattle.std.proofs.Common.{refl, rules, arith}
 use Rattle.tables.proofs.Written.{room_whole, room_same, room_new, room_here, tables_done, tables_same, tables_new, kept_size}
-use borrow.Author.Rules.{rules}
-use native.Mathlib.Omega.{arith}
 use Rattle.tables.proofs.write.write_level2.Goals as goal
 use Rattle.tables.proofs.write.write_level2.Goals.{else-directory-last, then-directory-last}
 

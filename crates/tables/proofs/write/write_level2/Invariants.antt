@@ -1,8 +1,6 @@
 -- `tables::write::write_level2` meets its contract. The loop's invariant: the tables of the directories to come make the whole, and they have
 -- room. Assumes nothing.
-use Prim.Native.Nat.{◌≤◌, ◌+◌, ◌*◌}
-use mathlib.Core.Path.{◌≡◌}
-use lib.ListN.{length, drop}
+use Rattle.std.proofs.Common.{◌≤◌, ◌+◌, ◌*◌, ◌≡◌, length, drop}
 use Rattle.memory.specs.Memory.{lent}
 use Rattle.tables.specs.Mapping.{mappings}
 use Rattle.tables.specs.Words.{put_words}

@@ -1,8 +1,7 @@
 -- `tables::write::write_table` meets its contract. The loop's invariant: the words to come make the whole. Assumes nothing.
-use mathlib.Core.Path.{refl}
+use Rattle.std.proofs.Common.{refl, rules}
 use Rattle.tables.specs.Tables.{level2}
 use Rattle.tables.proofs.Written.{words_begin, words_turn, words_end}
-use borrow.Author.Rules.{rules}
 use Rattle.tables.proofs.write.write_table.Goals as goal
 
 pub loop-i-init : goal.loop-i-init

@@ -1,7 +1,5 @@
 -- `tables::write::write_table` meets its contract. The loop's invariant: the words to come make the whole. Assumes nothing.
-use Prim.Native.Nat.{◌≤◌, ◌-◌, ◌+◌, ◌*◌}
-use mathlib.Core.Path.{◌≡◌}
-use lib.ListN.{length, drop}
+use Rattle.std.proofs.Common.{◌≤◌, ◌-◌, ◌+◌, ◌*◌, ◌≡◌, length, drop}
 use Rattle.memory.specs.Memory.{lent}
 use Rattle.tables.specs.Mapping.{mappings, leaf_at}
 use Rattle.tables.specs.Words.{put_words, words_of}

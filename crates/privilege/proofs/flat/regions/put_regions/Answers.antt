@@ -4,10 +4,10 @@ use Rattle.privilege.proofs.flat.Tables.{put_none, put_next, put_done}
 use Rattle.privilege.proofs.flat.regions.put_regions.Goals as goal
 
 pub loop-i-init : goal.loop-i-init
-loop-i-init c = (search put_none, search rules, search rules)
+loop-i-init c = (search (put_none, rules), search rules)
 
 pub loop-i-preserved : goal.loop-i-preserved
-loop-i-preserved c = (search put_next, search rules, search rules)
+loop-i-preserved c = (search (put_next, rules), search rules)
 
 pub returns : goal.returns
-returns c = search put_done
+returns c = search (put_done, rules)

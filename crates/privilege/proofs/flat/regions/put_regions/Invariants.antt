@@ -6,4 +6,4 @@ use Rattle.privilege.proofs.flat.regions.put_regions.Given as goal
 
 abbrev pub invariant-loop-i : goal.invariant-loop-i
 invariant-loop-i l =
-    (regions_at l.words ≡ over_to l.i l.regions (regions_at l.initial.words)) × (length l.words ≡ 24) × (length l.regions ≡ 8)
+    (regions_at l.words ≡ over_to l.i l.region-items (regions_at l.initial.words)) × (length l.words ≡ 24)

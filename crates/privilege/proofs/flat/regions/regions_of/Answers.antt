@@ -4,10 +4,10 @@ use Rattle.privilege.proofs.flat.Tables.{take_none, take_next, take_done}
 use Rattle.privilege.proofs.flat.regions.regions_of.Goals as goal
 
 pub loop-i-init : goal.loop-i-init
-loop-i-init c = (search take_none, search rules, search rules)
+loop-i-init c = take_none _ _
 
 pub loop-i-preserved : goal.loop-i-preserved
-loop-i-preserved c = (search take_next, search rules, search rules)
+loop-i-preserved c = search (take_next, rules)
 
 pub returns : goal.returns
-returns c = search take_done
+returns c = search (take_done, rules)

@@ -1,7 +1,6 @@
 -- `tables::list::List::all_good` meets its contract. The loop's invariant: the whole test is the test from place `k` on. Assumes nothing.
-use mathlib.Core.Path.{refl}
+use Rattle.std.proofs.Common.{refl, rules}
 use Rattle.tables.proofs.Judged.{all_done, one_bad, one_good}
-use borrow.Author.Rules.{rules}
 use Rattle.tables.proofs.list.List.all_good.Goals as goal
 
 pub loop-k-init : goal.loop-k-init

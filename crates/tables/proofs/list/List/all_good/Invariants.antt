@@ -1,7 +1,5 @@
 -- `tables::list::List::all_good` meets its contract. The loop's invariant: the whole test is the test from place `k` on. Assumes nothing.
-use Prim.Native.Nat.{◌≤◌}
-use mathlib.Core.Path.{◌≡◌}
-use lib.ListN.{length, drop}
+use Rattle.std.proofs.Common.{◌≤◌, ◌≡◌, length, drop}
 use Rattle.tables.specs.Mapping.{mappings, all_good}
 use Rattle.tables.proofs.list.List.all_good.Given as goal
 
