@@ -11,7 +11,7 @@ use machine::flat::state::pack;
 use machine::state::Machine;
 use script::Event;
 
-// An event's line.
+// An event's line. Its letter crosses as a byte.
 #[repr(C)]
 #[derive(Drop)]
 pub struct MachineLine {

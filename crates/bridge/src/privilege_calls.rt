@@ -99,7 +99,7 @@ fn flags_of(l: [Region; 8]) -> [u32; 8]
     l.map(|region| region.flags)
 }
 
-// The state that has crossed.
+// The state that has crossed. The definitions have these names, and each function is called at one or two places: `From` would hide them.
 #[tactic(auto, unfolding(crate::specs::Privilege::state_of))]
 pub fn state_of(p: PrivilegeState) -> SystemState
     ensures { result ≡ state_of p }

@@ -42,7 +42,7 @@ pub const CACHE_INFO: u32 = LINE_SHIFT | (0 << 4) | (I_SIZE_SHIFT << 8) | (D_SIZ
 
 const LINES: u32 = 1 << (SIZE_SHIFT - LINE_SHIFT);
 
-// The mark of an empty line, which no tag equals.
+// The mark of an empty line, which no tag equals. C has the tags, so it is a number and no `Option`.
 const INVALID: u32 = 0xFFFF_FFFF;
 
 #[repr(C)]

@@ -60,6 +60,7 @@ impl Display for Answer {
 }
 
 fn step(cache: L1Cache, e: Event) -> Answer {
+    // Any byte is a kind, and each arm is one call: an enum or a table would name it twice.
     match e.kind {
         0 => Answer::from(cache.load(e.a)),
         1 => Answer::from(cache.store(e.a)),

@@ -18,7 +18,7 @@ use std::io;
 use std::io::Write;
 
 // An event's line, and of the state after it the lines that `before` has not. Where only changes are wanted, that state is the next one's
-// `before`; else `before` stays without a line, so that all are shown.
+// `before`; else `before` stays without a line, so that all are shown: it is a text in both, and an `Option` would have no other use.
 fn show_event<W: Write>(
     to: &mut W,
     k: u32,

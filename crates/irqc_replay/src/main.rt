@@ -15,6 +15,7 @@ use std::{fmt, io};
 const INPUT_MAX: u64 = 65536;
 
 fn step(c: IrqController, e: Event) -> IrqController {
+    // Any byte is a kind, and each arm is one call: an enum or a table would name it twice.
     match e.kind {
         0 => c.set_source(e.a, e.size != 0),
         1 => c.set_source_levels(e.aux, (e.a % 65536) as u16),

@@ -1,7 +1,7 @@
 // The text of a run: a line for each event, the last line, and the line of a refused script. Document 01, 'Event script and
 // its listing'.
 //
-// Each function writes into a lent buffer at a place and answers the next place, as those of `text` do.
+// Each function writes into a lent buffer at a place and answers the next place, as those of `text` do: the theorems of `contracts` name them so.
 #![tactic(auto)]
 
 ghost use Rattle.std.specs.Prelude.{◌≡◌, [], ◌∷◌, ◌++◌};

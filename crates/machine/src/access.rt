@@ -53,6 +53,7 @@ pub struct Accessed {
     pub reads: u32,
 }
 
+// Not by `From`: the machine comes beside the answer.
 fn with_machine(machine: Machine, answer: Answer) -> Accessed
     ensures { result ≡ accessed_as answer machine }
 {

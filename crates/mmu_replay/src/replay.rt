@@ -66,6 +66,7 @@ impl Replay {
     }
 
     pub fn step(&mut self, mem: &mut [u8], e: Event) -> Answer {
+        // Any byte is a kind, and each arm is one call: an enum or a table would name it twice.
         match e.kind {
             0 => return self.check(mem, e, Access::Read),
             1 => return self.check(mem, e, Access::Write),

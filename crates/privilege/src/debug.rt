@@ -20,7 +20,7 @@ pub struct TlbFlags {
     pub user: bool,
 }
 
-// One TLB slot. The pages are addresses.
+// One TLB slot. The pages are addresses. An entry that is not valid shows its numbers too.
 #[derive(Drop)]
 pub struct TlbEntryView {
     pub index: usize,
@@ -45,6 +45,7 @@ pub enum DebugTranslation {
 }
 
 impl TlbFlags {
+    // By its name, since `From<u32>` would not say that the number is a table word.
     fn from_pte(pte: u32) -> Self
         ensures { result ≡ flags_of pte }
     {

@@ -117,7 +117,7 @@ impl SystemState {
         done(self, reg)
     }
 
-    // MFSR.
+    // MFSR. Each arm is one call or field, as MTSR's are: a table of functions would be no plainer.
     pub fn read_sr(self, sr: u16, reg: [u32; 32]) -> Result<u32, Refusal>
         ensures { result ≡ sr_read self sr reg }
     {

@@ -140,6 +140,7 @@ impl Replay {
     }
 
     fn operate(&mut self, mem: &mut [u8], e: Event) -> Result<u32, Fault> {
+        // Any byte is a kind, and each arm is one call: an enum or a table would name it twice.
         match e.kind {
             0 => return self.load(mem, e, Access::Read),
             1 => return self.store(mem, e),

@@ -1,7 +1,7 @@
 // Text in a lent buffer: bytes, hexadecimal and decimal numbers, each written at a place, with the next place as the answer.
 //
-// A byte that has no room is left out and the place stays, so nothing is asked of the caller. Buffer and place are no struct: a
-// contract says what both become, with no step through a lent field.
+// A byte that has no room is left out and the place stays, so nothing is asked of the caller. Buffer and place are no struct: the
+// theorems of `contracts` speak of these functions, and a contract says what both become with no step through a lent field.
 #![tactic(auto)]
 
 ghost use Rattle.std.specs.Prelude.{◌≡◌, [], ◌∷◌};

@@ -34,6 +34,7 @@ pub fn run(
         return Listed { place: at, totals };
     }
     let mut place = at;
+    // The place, and no reader: one would be made anew for each event.
     let mut from = first as usize;
     for k in 0..count {
         let line = step(state, mem, base, event_of(script, from));

@@ -82,7 +82,7 @@ fn flush_vm(sys: &mut [u32; SYSTEM_WORDS])
     flush(&mut sys[VM..REG]);
 }
 
-// MFSR.
+// MFSR. Each arm is one call or word, as MTSR's are: a table of functions would be no plainer.
 pub fn read_sr(sys: &[u32], sr: u16) -> Result<u32, Refusal>
     ensures { ReadsSr sys.now sr result }
 {
