@@ -15,13 +15,14 @@ pub(crate) fn visits(pa: u32, end: u32) -> u32
 }
 
 // Drops the index of each line that it visits; the next line has the next index. The hardware's snoop carries the index only, so
-// a conflicting tag at the same index goes too.
+// a conflicting tag at the same index goes too. The turns are counted in a word, as `visits` has them: the compiler then drops eight
+// tags a turn where no index wraps.
 pub(crate) fn sweep(tags: &mut [u32], pa: u32, end: u32)
     requires { length tags.old ≡ 256 }
     ensures { tags.new ≡ swept_tags tags.old (line_of pa) (line_stop end) }
 {
     let first = index_of(pa);
-    for n in 0..visits(pa, end) as usize {
-        tags[(first + n) % LINES as usize] = INVALID;
+    for n in 0..visits(pa, end) {
+        tags[(first + n as usize) % LINES as usize] = INVALID;
     }
 }

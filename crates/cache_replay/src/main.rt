@@ -8,13 +8,17 @@
 
 use cache::{CacheAccess, L1Cache};
 use digest::{FNV_START, fnv_words};
+use input::read_full;
 use script::{EVENT_SIZE, Event, event_at};
 use std::fmt::{Display, Formatter};
-use std::io::{Read, Write};
+use std::io::Write;
 use std::{fmt, io};
 
 // What is read of the input; the rest is left.
-const INPUT_MAX: u64 = 65536;
+const INPUT_MAX: usize = 65536;
+
+// More bytes than a line has.
+const LINE_MAX: usize = 128;
 
 #[derive(Clone, Copy)]
 struct Answer {
@@ -41,10 +45,10 @@ impl From<L1Cache> for Answer {
 
 impl Display for Answer {
     fn fmt<W: fmt::Write>(&self, f: &mut Formatter<W>) -> fmt::Result {
-        let c = self.cache;
+        let c = &self.cache;
         write!(f, "{:08X}", self.value)?;
         write!(f, " {:X} {:X}", c.i.enabled as u8, c.d.enabled as u8)?;
-        for bank in [c.i, c.d] {
+        for bank in [&c.i, &c.d] {
             write!(f, " {:08X} {:08X}", bank.hits, bank.misses)?;
         }
         write!(
@@ -52,7 +56,7 @@ impl Display for Answer {
             " {:08X} {:08X} {:08X}",
             c.miss_penalty, c.ram_start, c.ram_end
         )?;
-        for bank in [c.i, c.d] {
+        for bank in [&c.i, &c.d] {
             write!(f, " {:08X}", fnv_words(FNV_START, &bank.tags))?;
         }
         Ok(())
@@ -86,14 +90,23 @@ fn step(cache: L1Cache, e: Event) -> Answer {
     }
 }
 
+// A line goes out by one call.
+fn show<W: Write>(to: &mut W, answer: &Answer) -> io::Result<()> {
+    let mut line = [0u8; LINE_MAX];
+    let mut room = line.as_mut_slice();
+    writeln!(room, "{answer}")?;
+    let filled = LINE_MAX.saturating_sub(room.len());
+    to.write_all(&line[..filled])
+}
+
 fn main(rt: HostRuntime) -> io::Result<()> {
-    let mut input = Vec::new(rt.alloc());
-    rt.stdin().take(INPUT_MAX).read_to_end(&mut input)?;
+    let mut input = [0u8; INPUT_MAX];
+    let length = read_full(&mut rt.stdin(), &mut input)?;
     let mut out = rt.stdout();
     let mut cache = L1Cache::new(0, 0x8000);
-    for record in input.chunks(EVENT_SIZE) {
+    for record in input[..length].chunks(EVENT_SIZE) {
         let answer = step(cache, event_at(record, 0));
-        writeln!(out, "{answer}")?;
+        show(&mut out, &answer)?;
         cache = answer.cache;
     }
     Ok(())

@@ -17,6 +17,9 @@ const VA: u32 = 0x5FFE;
 
 const MEMORY: usize = 0x22000;
 
+// More bytes than the line has.
+const LINE_MAX: usize = 128;
+
 // A user-readable page that leads to physical page 3.
 fn entry(vpn: u32) -> TlbEntry {
     TlbEntry {
@@ -59,6 +62,21 @@ fn put_data(mem: &mut [u8; MEMORY]) {
     mem[0x3FFE..0x4000].copy_from_slice(&[0xB1, 0xB2]);
 }
 
+// The line goes out by one call.
+fn show<W: Write>(to: &mut W, value: u32, reads: u32, vm: Vm) -> io::Result<()> {
+    let mut line = [0u8; LINE_MAX];
+    let mut room = line.as_mut_slice();
+    let slot = vm.tlb[0];
+    write!(room, "{value:08X} {reads} {}", vm.next_victim)?;
+    writeln!(
+        room,
+        " {:X} {:08X} {:08X} {:02X}",
+        slot.valid as u8, slot.vpn, slot.ppn, slot.flags
+    )?;
+    let filled = LINE_MAX.saturating_sub(room.len());
+    to.write_all(&line[..filled])
+}
+
 // Nothing is printed where the check denies the load or its data has a bus error.
 fn main(rt: HostRuntime) -> io::Result<()> {
     let mut mem = [0u8; MEMORY];
@@ -71,13 +89,5 @@ fn main(rt: HostRuntime) -> io::Result<()> {
     let Ok(value) = checked.sys.read_data(&mem, 0, VA, 4) else {
         return Ok(());
     };
-    let vm = checked.sys.vm;
-    let slot = vm.tlb[0];
-    let mut out = rt.stdout();
-    write!(out, "{value:08X} {} {}", checked.reads, vm.next_victim)?;
-    writeln!(
-        out,
-        " {:X} {:08X} {:08X} {:02X}",
-        slot.valid as u8, slot.vpn, slot.ppn, slot.flags
-    )
+    show(&mut rt.stdout(), value, checked.reads, checked.sys.vm)
 }

@@ -1,5 +1,8 @@
 // Text in a buffer of its own: a library has no heap. What has no room is left out, so that no write fails.
-use std::fmt;
+//
+// `text` puts the numbers right into the bytes, and no `Display` stands for them: a state has some 140, and by `Display` a listing took nearly twice
+// its time.
+use text::{put_byte, put_decimal, put_hex};
 
 // More bytes than an event's line and the seven lines of a state ever have: 54, and 930 with a victim of two digits.
 const ROOM: usize = 1024;
@@ -30,11 +33,23 @@ impl Buffer {
         room[..count].copy_from_slice(&text[..count]);
         self.filled = start + count;
     }
-}
 
-impl fmt::Write for Buffer {
-    fn write_str(&mut self, s: &str) -> fmt::Result {
-        self.push(s.as_bytes());
-        Ok(())
+    // A number in hexadecimal behind the byte that parts it from what is before.
+    pub fn push_hex(&mut self, before: u8, v: u32, digits: u32) {
+        let next = put_byte(&mut self.bytes, self.filled, before);
+        self.filled = put_hex(&mut self.bytes, next, v, digits);
+    }
+
+    // Words, each behind a blank.
+    pub fn push_words(&mut self, words: &[u32]) {
+        for word in words {
+            self.push_hex(b' ', *word, 8);
+        }
+    }
+
+    // A number in decimal behind a blank.
+    pub fn push_decimal(&mut self, v: u64) {
+        let next = put_byte(&mut self.bytes, self.filled, b' ');
+        self.filled = put_decimal(&mut self.bytes, next, v);
     }
 }

@@ -13,7 +13,6 @@ use machine::state::Machine;
 use script::event_at;
 use script::header::{Header, copy_image, event_place, header_of};
 use state::State;
-use std::fmt::Write as _;
 use std::io;
 use std::io::Write;
 
@@ -28,8 +27,7 @@ fn show_event<W: Write>(
     only_changes: bool,
 ) -> io::Result<()> {
     let mut now = Buffer::new();
-    // It always succeeds: what has no room is left out.
-    let _ = write!(now, "{state}");
+    state.put(&mut now);
     let mut out = Buffer::new();
     out.filled = put_line(&mut out.bytes, 0, k, line);
     changes::put_changes(&mut out, now.text(), before.text());

@@ -1,51 +1,23 @@
 // The state in seven lines: `S`, the part's name, its numbers.
+use crate::buffer::Buffer;
 use digest::{FNV_START, fnv_byte, fnv_words};
 use machine::state::Machine;
 use mmu::tlb::TlbEntry;
 use privilege::region::Region;
-use std::fmt;
-use std::fmt::{Display, Formatter};
 
 pub const LINES: u32 = 7;
 
-// Numbers in a line, each behind a blank.
-#[derive(Drop)]
-struct Words<'a>(&'a [u32]);
-
-impl Display for Words<'_> {
-    fn fmt<W: fmt::Write>(&self, f: &mut Formatter<W>) -> fmt::Result {
-        for word in self.0 {
-            write!(f, " {word:08X}")?;
-        }
-        Ok(())
-    }
+fn put_region(out: &mut Buffer, region: &Region) {
+    out.push_words(&[region.start, region.end]);
+    out.push_hex(b' ', region.flags, 1);
 }
-
-#[derive(Drop)]
-struct Regions<'a>(&'a [Region]);
-
-impl Display for Regions<'_> {
-    fn fmt<W: fmt::Write>(&self, f: &mut Formatter<W>) -> fmt::Result {
-        for region in self.0 {
-            let Region { start, end, flags } = *region;
-            write!(f, " {start:08X} {end:08X} {flags:X}")?;
-        }
-        Ok(())
-    }
-}
-
-#[derive(Drop)]
-struct Entries<'a>(&'a [TlbEntry]);
 
 // A page number has at most 20 bits.
-impl Display for Entries<'_> {
-    fn fmt<W: fmt::Write>(&self, f: &mut Formatter<W>) -> fmt::Result {
-        for e in self.0 {
-            let valid = e.valid as u8;
-            write!(f, " {valid}:{:05X}:{:05X}:{:02X}", e.vpn, e.ppn, e.flags)?;
-        }
-        Ok(())
-    }
+fn put_entry(out: &mut Buffer, entry: &TlbEntry) {
+    out.push_hex(b' ', entry.valid as u32, 1);
+    out.push_hex(b':', entry.vpn, 5);
+    out.push_hex(b':', entry.ppn, 5);
+    out.push_hex(b':', entry.flags, 2);
 }
 
 fn mem_digest(mem: &[u8]) -> u32 {
@@ -61,40 +33,62 @@ pub struct State<'a> {
 
 impl State<'_> {
     // STATUS, EPC, CAUSE; R28 to R30 of the mode that is not current; VCTL, PTBR, VFAULT and the next victim.
-    fn write_system<W: fmt::Write>(&self, f: &mut Formatter<W>) -> fmt::Result {
-        let sys = self.machine.sys;
-        let vm = sys.vm;
-        let trap = [sys.status(), sys.epc, sys.cause];
-        write!(f, "S sys{}{}", Words(&trap), Words(&sys.other_bank))?;
-        let enabled = vm.enabled as u8;
-        write!(f, " {enabled} {:08X} {:08X}", vm.ptbr, vm.vfault)?;
-        writeln!(f, " {}", vm.next_victim)
+    fn put_system(&self, out: &mut Buffer) {
+        let sys = &self.machine.sys;
+        let vm = &sys.vm;
+        out.push(b"S sys");
+        out.push_words(&[sys.status(), sys.epc, sys.cause]);
+        out.push_words(&sys.other_bank);
+        out.push_hex(b' ', vm.enabled as u32, 1);
+        out.push_words(&[vm.ptbr, vm.vfault]);
+        out.push_decimal(vm.next_victim as u64);
+    }
+
+    fn put_regions(&self, out: &mut Buffer) {
+        out.push(b"\nS rgn");
+        for region in &self.machine.sys.regions {
+            put_region(out, region);
+        }
+    }
+
+    fn put_tlb(&self, out: &mut Buffer) {
+        out.push(b"\nS tlb");
+        for entry in &self.machine.sys.vm.tlb {
+            put_entry(out, entry);
+        }
+    }
+
+    fn put_controller(&self, out: &mut Buffer) {
+        let c = &self.machine.irqc;
+        out.push(b"\nS irq");
+        for word in [c.pending, c.enable, c.source_level] {
+            out.push_hex(b' ', word as u32, 4);
+        }
     }
 
     // Which banks are enabled; the hits and misses of each, the penalty, the digests of the tags.
-    fn write_cache<W: fmt::Write>(&self, f: &mut Formatter<W>) -> fmt::Result {
-        let cache = self.machine.cache;
-        let (i, d) = (cache.i, cache.d);
-        let i_tags = fnv_words(FNV_START, &i.tags);
-        let d_tags = fnv_words(FNV_START, &d.tags);
-        let counts = [i.hits, i.misses, d.hits, d.misses];
-        write!(f, "S cac {} {}", i.enabled as u8, d.enabled as u8)?;
-        write!(f, "{} {:08X}", Words(&counts), cache.miss_penalty)?;
-        writeln!(f, " {i_tags:08X} {d_tags:08X}")
+    fn put_cache(&self, out: &mut Buffer) {
+        let cache = &self.machine.cache;
+        let (i, d) = (&cache.i, &cache.d);
+        out.push(b"\nS cac");
+        out.push_hex(b' ', i.enabled as u32, 1);
+        out.push_hex(b' ', d.enabled as u32, 1);
+        out.push_words(&[i.hits, i.misses, d.hits, d.misses, cache.miss_penalty]);
+        for bank in [i, d] {
+            out.push_words(&[fnv_words(FNV_START, &bank.tags)]);
+        }
     }
-}
 
-impl Display for State<'_> {
-    fn fmt<W: fmt::Write>(&self, f: &mut Formatter<W>) -> fmt::Result {
-        let m = self.machine;
-        let c = m.irqc;
-        self.write_system(f)?;
-        writeln!(f, "S rgn{}", Regions(&m.sys.regions))?;
-        writeln!(f, "S tlb{}", Entries(&m.sys.vm.tlb))?;
-        write!(f, "S irq {:04X} {:04X}", c.pending, c.enable)?;
-        writeln!(f, " {:04X}", c.source_level)?;
-        self.write_cache(f)?;
-        writeln!(f, "S reg{}", Words(&m.reg))?;
-        writeln!(f, "S mem {:08X}", mem_digest(self.mem))
+    pub fn put(&self, out: &mut Buffer) {
+        self.put_system(out);
+        self.put_regions(out);
+        self.put_tlb(out);
+        self.put_controller(out);
+        self.put_cache(out);
+        out.push(b"\nS reg");
+        out.push_words(&self.machine.reg);
+        out.push(b"\nS mem");
+        out.push_words(&[mem_digest(self.mem)]);
+        out.push(b"\n");
     }
 }

@@ -1,6 +1,5 @@
 -- An address by its place in the lent slice, as the code tests it. Assumes nothing.
 use Rattle.std.specs.Prelude.{Option, Some, None}
-use Rattle.std.specs.Int.{from_be_bytes, w32}
 use Rattle.std.proofs.lemmas.Bool.{lt-leb}
 use Rattle.std.proofs.Common.{◌≡◌, ℕ, ◌+◌, ◌-◌, ◌*◌, ◌%◌, ◌≤◌, ◌<◌, true, false, List, [], ◌∷◌, ◌++◌, leb, length, get_or, set, drop, refl, sym, ◌∙◌, ⊎_elim, add-zero, arith, lit<, get_or-take, get_or-drop, le-leb, lt-ltb, le-ltb, eq-eqb, ne_eqb}
 use Rattle.common.specs.Bytes.{big_endian}
@@ -94,7 +93,7 @@ module _ (base a : ℕ) (l : List ℕ) where
   pub word_missing : Outside base a 4 l → None ≡ read_at (lent base l) (word_spots a)
   word_missing = ⊎_elim (λ h. word_below base l a h) (λ h. word_above base l a h.0 (omega (arith, h.1)))
 
-  pub word_read : (b : List ℕ) (r : ℕ) → BytesAt base a 4 l b → r ≡ from_be_bytes w32 b → Some r ≡ read_at (lent base l) (word_spots a)
+  pub word_read : (b : List ℕ) (r : ℕ) → BytesAt base a 4 l b → r ≡ big_endian (get_or b 0 0 ∷ get_or b 1 0 ∷ get_or b 2 0 ∷ get_or b 3 0 ∷ []) → Some r ≡ read_at (lent base l) (word_spots a)
   word_read b r w e =
       let f = byte_of base a 4 l b w in
       let z = first_of base a 4 l b w (lit< tt) in

@@ -1,6 +1,6 @@
 -- Halves and words by their place in the lent slice, as the code tests it. Assumes nothing.
 use Rattle.std.specs.Prelude.{Option, Some, None, Bool}
-use Rattle.std.specs.Int.{from_be_bytes, to_be_bytes, w16, w32}
+use Rattle.std.specs.Int.{to_be_bytes, w16, w32}
 use Rattle.std.proofs.Common.{◌≡◌, ℕ, zero, suc, ◌+◌, ◌-◌, ◌/◌, ◌%◌, ◌≤◌, ◌<◌, true, false, List, [], ◌∷◌, ◌++◌, length, get_or, set, take, drop, refl, sym, ap, ◌∙◌, ⊎_elim, arith, div-one, lit<, length-set, append_assoc, take-append-drop, drop-set-lt, drop-drop, drop-cons}
 use Rattle.std.proofs.lemmas.Grind.{take-set_at}
 use Rattle.common.specs.Bytes.{big_endian, bytes_of}
@@ -37,7 +37,7 @@ module _ (base a : ℕ) (l : List ℕ) where
   pub half_missing : Outside base a 2 l → None ≡ read_at (lent base l) (half_spots a)
   half_missing = ⊎_elim (λ h. half_below base l a h) (λ h. half_above base l a h.0 (omega (arith, h.1)))
 
-  pub half_read : (b : List ℕ) (r : ℕ) → BytesAt base a 2 l b → r ≡ from_be_bytes w16 b → Some r ≡ read_at (lent base l) (half_spots a)
+  pub half_read : (b : List ℕ) (r : ℕ) → BytesAt base a 2 l b → r ≡ big_endian (get_or b 0 0 ∷ get_or b 1 0 ∷ []) → Some r ≡ read_at (lent base l) (half_spots a)
   half_read b r w e =
       let z = first_of base a 2 l b w (lit< tt) in
       let one = byte_of base a 2 l b w 1 (lit< tt) in

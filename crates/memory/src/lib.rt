@@ -6,6 +6,8 @@ ghost use Rattle.std.specs.Prelude.{◌≡◌, ◌≤◌, length, MatchOption};
 ghost use Rattle.memory.specs.Memory.{lent, good_map, byte_at, writable, put_byte, read_at, word_spots};
 ghost use Rattle.memory.specs.Span.{Outside, BytesAt};
 
+use common::be_word;
+
 pub mod gate;
 pub mod span;
 
@@ -58,8 +60,9 @@ pub fn read_byte(mem: &[u8], base: u32, addr: u32) -> Option<u32>
 pub fn read_word(mem: &[u8], base: u32, addr: u32) -> Option<u32>
     ensures { result ≡ read_at (lent base mem.now) (word_spots addr) }
 {
-    let bytes = bytes_at(mem, base, addr)?;
-    Some(u32::from_be_bytes(bytes))
+    let bytes = bytes_at::<4>(mem, base, addr)?;
+    let [a, b, c, d] = bytes;
+    Some(be_word(a, b, c, d))
 }
 
 // Writes a byte where that is in the map, and says whether it is.

@@ -7,13 +7,15 @@ ghost use Rattle.memory.specs.Memory.{lent, read_at, word_spots, writable, put_b
 ghost use Rattle.memory.specs.Span.{spots, half_spots};
 
 use crate::bytes_at;
+use common::be_half;
 
 // The big-endian half at an address. One byte outside makes it unreadable.
 pub fn read_half(mem: &[u8], base: u32, addr: u32) -> Option<u32>
     ensures { result ≡ read_at (lent base mem.now) (half_spots addr) }
 {
-    let bytes = bytes_at(mem, base, addr)?;
-    Some(u16::from_be_bytes(bytes) as u32)
+    let bytes = bytes_at::<2>(mem, base, addr)?;
+    let [a, b] = bytes;
+    Some(be_half(a, b) as u32)
 }
 
 // Writes a byte where that is in the map, and says whether it is.

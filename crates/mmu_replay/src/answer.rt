@@ -29,14 +29,14 @@ fn fault_address(exception: Exception) -> u32 {
 impl Display for Answer {
     fn fmt<W: fmt::Write>(&self, f: &mut Formatter<W>) -> fmt::Result {
         let (letter, value, addr, reads) = match *self {
-            Answer::Nothing => ('-', 0, 0, 0),
-            Answer::Allowed { reads } => ('A', 0, 0, reads),
+            Answer::Nothing => ("-", 0, 0, 0),
+            Answer::Allowed { reads } => ("A", 0, 0, reads),
             Answer::Denied { exception, reads } => {
-                ('X', exception.cause(), fault_address(exception), reads)
+                ("X", exception.cause(), fault_address(exception), reads)
             }
-            Answer::Mapped { physical, flags } => ('M', physical, flags, 0),
-            Answer::Unmapped => ('U', 0, 0, 0),
-            Answer::BusError => ('E', 0, 0, 0),
+            Answer::Mapped { physical, flags } => ("M", physical, flags, 0),
+            Answer::Unmapped => ("U", 0, 0, 0),
+            Answer::BusError => ("E", 0, 0, 0),
         };
         write!(f, "{letter} {value:08X} {addr:08X} {reads}")
     }

@@ -8,33 +8,54 @@
 #![tactic(auto)]
 
 mod answer;
+mod line;
 mod replay;
 
+use answer::Answer;
+use input::read_full;
+use line::Line;
 use replay::Replay;
 use script::event_at;
 use script::header::{copy_image, event_place, header_of};
+use std::fmt::Write as _;
 use std::io;
-use std::io::{Read, Write};
+use std::io::Write;
 
 // What is read of the input, more than the longest script has; the rest is left.
-const INPUT_MAX: u64 = 65536;
+const INPUT_MAX: usize = 65536;
+
+// Room for the largest image.
+const MEMORY_MAX: usize = 32768;
+
+// A line goes out by one call.
+fn show<W: Write>(to: &mut W, answer: Answer, replay: &Replay) -> io::Result<()> {
+    let mut line = Line::new();
+    let victim = replay.vm.next_victim;
+    let digest = replay.tlb_digest();
+    // It always succeeds: what has no room is left out.
+    let _ = write!(line, "{answer} {victim} {digest:08X}\n");
+    to.write_all(line.text())
+}
 
 // The memory, as long as the image, becomes the image; then each event in order. Nothing is written where the input is refused. `privilege_replay` starts
 // alike: a function for both would hand back the input, its header and the memory, and be as long.
 fn main(rt: HostRuntime) -> io::Result<()> {
-    let mut input = Vec::new(rt.alloc());
-    rt.stdin().take(INPUT_MAX).read_to_end(&mut input)?;
-    let Ok(h) = header_of(&input) else {
+    let mut input = [0u8; INPUT_MAX];
+    let length = read_full(&mut rt.stdin(), &mut input)?;
+    let script = &input[..length];
+    let Ok(h) = header_of(script) else {
         return Ok(());
     };
-    let mut mem = vec![in rt.alloc(); 0u8; h.image as usize]?;
-    copy_image(&input, h.image_at as usize, &mut mem);
+    let mut mem = [0u8; MEMORY_MAX];
+    let Some(mem) = mem.get_mut(..h.image as usize) else {
+        return Ok(());
+    };
+    copy_image(script, h.image_at as usize, mem);
     let mut out = rt.stdout();
     let mut replay = Replay::new(h.base, h.penalty);
     for k in 0..h.events {
-        let answer = replay.step(&mut mem, event_at(&input, event_place(h, k)));
-        let victim = replay.vm.next_victim;
-        writeln!(out, "{answer} {victim} {:08X}", replay.tlb_digest())?;
+        let answer = replay.step(mem, event_at(script, event_place(h, k)));
+        show(&mut out, answer, &replay)?;
     }
     Ok(())
 }

@@ -84,7 +84,7 @@ impl Replay {
     // As in `privilege_replay`, whose digest goes on over more.
     pub fn tlb_digest(&self) -> u32 {
         let mut h = FNV_START;
-        for entry in self.vm.tlb {
+        for entry in &self.vm.tlb {
             h = fnv_words(h, &[entry.valid as u32, entry.vpn, entry.ppn, entry.flags]);
         }
         h

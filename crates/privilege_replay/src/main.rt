@@ -11,36 +11,56 @@
 mod answer;
 mod replay;
 
+use answer::Answer;
+use input::read_full;
 use replay::Replay;
 use script::event_at;
 use script::header::{copy_image, event_place, header_of};
 use std::io;
-use std::io::{Read, Write};
+use std::io::Write;
 
 // What is read of the input, more than the longest script has; the rest is left.
-const INPUT_MAX: u64 = 65536;
+const INPUT_MAX: usize = 65536;
+
+// Room for the largest image.
+const MEMORY_MAX: usize = 32768;
+
+// More bytes than a line has.
+const LINE_MAX: usize = 128;
+
+// A line goes out by one call.
+fn show<W: Write>(to: &mut W, answer: Answer, replay: &Replay, witness: u32) -> io::Result<()> {
+    let mut line = [0u8; LINE_MAX];
+    let mut room = line.as_mut_slice();
+    let status = replay.sys.status();
+    let epc = replay.sys.epc;
+    let cause = replay.sys.cause;
+    writeln!(
+        room,
+        "{answer} {status:08X} {epc:08X} {cause:08X} {witness:08X}"
+    )?;
+    let filled = LINE_MAX.saturating_sub(room.len());
+    to.write_all(&line[..filled])
+}
 
 // The memory, as long as the image, becomes the image; then each event in order. Nothing is written where the input is refused.
 fn main(rt: HostRuntime) -> io::Result<()> {
-    let mut input = Vec::new(rt.alloc());
-    rt.stdin().take(INPUT_MAX).read_to_end(&mut input)?;
-    let Ok(h) = header_of(&input) else {
+    let mut input = [0u8; INPUT_MAX];
+    let length = read_full(&mut rt.stdin(), &mut input)?;
+    let script = &input[..length];
+    let Ok(h) = header_of(script) else {
         return Ok(());
     };
-    let mut mem = vec![in rt.alloc(); 0u8; h.image as usize]?;
-    copy_image(&input, h.image_at as usize, &mut mem);
+    let mut mem = [0u8; MEMORY_MAX];
+    let Some(mem) = mem.get_mut(..h.image as usize) else {
+        return Ok(());
+    };
+    copy_image(script, h.image_at as usize, mem);
     let mut out = rt.stdout();
     let mut replay = Replay::new(h.base);
     for k in 0..h.events {
-        let answer = replay.step(&mut mem, event_at(&input, event_place(h, k)));
-        let status = replay.sys.status();
-        let epc = replay.sys.epc;
-        let cause = replay.sys.cause;
-        let witness = replay.witness(&mem);
-        writeln!(
-            out,
-            "{answer} {status:08X} {epc:08X} {cause:08X} {witness:08X}"
-        )?;
+        let answer = replay.step(mem, event_at(script, event_place(h, k)));
+        show(&mut out, answer, &replay, replay.witness(mem))?;
     }
     Ok(())
 }

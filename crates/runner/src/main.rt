@@ -14,6 +14,9 @@ use std::fmt::{Display, Formatter};
 use std::io::{Read, Write};
 use std::{fmt, io};
 
+// More bytes than the line on standard error has.
+const LINE_MAX: usize = 64;
+
 // Where a run ended before its listing was out.
 #[derive(Clone, Copy)]
 enum Stopped {
@@ -76,8 +79,17 @@ fn run<R: Read, W: Write>(from: &mut R, to: &mut W) -> Result<(), Stopped>
     }
 }
 
+// The line goes out by one call.
+fn tell<W: Write>(to: &mut W, stopped: Stopped) -> io::Result<()> {
+    let mut line = [0u8; LINE_MAX];
+    let mut room = line.as_mut_slice();
+    writeln!(room, "runner: {stopped}")?;
+    let filled = LINE_MAX.saturating_sub(room.len());
+    to.write_all(&line[..filled])
+}
+
 fn main(rt: HostRuntime) {
     if let Err(stopped) = run(&mut rt.stdin(), &mut rt.stdout()) {
-        let _ = writeln!(rt.stderr(), "runner: {stopped}");
+        let _ = tell(&mut rt.stderr(), stopped);
     }
 }

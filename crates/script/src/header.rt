@@ -5,7 +5,7 @@ ghost use Rattle.script.specs.Event.{word_of};
 ghost use Rattle.script.specs.Image.{bytes_from};
 
 use crate::{EVENT_SIZE, padded};
-use common::Refusal;
+use common::{Refusal, be_word};
 use memory::good_range;
 use std::ops::Range;
 
@@ -39,7 +39,9 @@ pub struct Header {
 fn word_at(s: &[u8], at: usize) -> u32
     ensures { result ≡ word_of s.now at 0 }
 {
-    u32::from_be_bytes(padded(s, at))
+    let bytes = padded::<4>(s, at);
+    let [a, b, c, d] = bytes;
+    be_word(a, b, c, d)
 }
 
 #[tactic(auto, unfolding(crate::specs::Header::header_at, crate::specs::Event::word_of))]

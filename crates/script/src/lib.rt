@@ -1,16 +1,16 @@
 // An event script: document 01, 'Event script and its listing'. Here its events; `header` has its header and its image.
 #![tactic(auto)]
 
-ghost use Rattle.std.specs.Prelude.{◌≡◌, ◌+◌, ◌≤◌, length, IfSome};
+ghost use Rattle.std.specs.Prelude.{◌≡◌, ◌+◌, ◌≤◌, length, slice_index, IfSome};
 ghost use Rattle.script.specs.Event.{event_at};
 ghost use Rattle.script.specs.Image.{bytes_from};
 ghost use Rattle.script.specs.Meaning.{Meaning};
 ghost use Rattle.script.specs.Corners.{Corners};
 
+use common::{be_half, be_word};
+
 pub mod header;
 pub mod reader;
-
-use header::copy_image;
 
 pub const EVENT_SIZE: usize = 12;
 
@@ -24,12 +24,26 @@ pub struct Event {
     pub b: u32,
 }
 
-// `N` bytes from place `at` on; zeros past the end.
+// Byte `k` from place `at` on; 0 past the end.
+fn byte_at(s: &[u8], at: usize, k: usize) -> u8
+    ensures { result ≡ slice_index s.now (at + k) }
+{
+    if at < s.len() && k < s.len() - at {
+        s[at + k]
+    } else {
+        0
+    }
+}
+
+// `N` bytes from place `at` on; zeros past the end. They are few, and tested one by one: a copy of as many as there are would be a call of `memcpy`, which
+// the library `race` has no other use for.
 fn padded<const N: usize>(s: &[u8], at: usize) -> [u8; N]
     ensures { result ≡ bytes_from s.now at N }
 {
     let mut bytes = [0u8; N];
-    copy_image(s, at, &mut bytes);
+    for (k, byte) in bytes.iter_mut().enumerate() {
+        *byte = byte_at(s, at, k);
+    }
     bytes
 }
 
@@ -40,9 +54,9 @@ fn decode(bytes: &[u8; EVENT_SIZE]) -> Event
     Event {
         kind,
         size,
-        aux: u16::from_be_bytes([aux0, aux1]),
-        a: u32::from_be_bytes([a0, a1, a2, a3]),
-        b: u32::from_be_bytes([b0, b1, b2, b3]),
+        aux: be_half(aux0, aux1),
+        a: be_word(a0, a1, a2, a3),
+        b: be_word(b0, b1, b2, b3),
     }
 }
 

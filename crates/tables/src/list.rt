@@ -1,10 +1,13 @@
 // The list of mappings: three slices, of which the elements at one index make a mapping.
-ghost use Rattle.std.specs.Prelude.{◌≡◌, true, false, ◌<◌, ◌≤◌, length, get_or, drop, MatchResult};
+ghost use Rattle.std.specs.Prelude.{◌≡◌, true, false, ◌/◌, ◌<◌, ◌≤◌, length, get_or, drop, MatchResult};
 ghost use Rattle.tables.specs.declared.refusal.Refusal.TheVariants.{Order};
 ghost use Rattle.tables.specs.Mapping.{mapping, mappings, good_list, all_good, leaf_at};
 
 use crate::mapping::{Mapping, good_list};
 use crate::refusal::Refusal;
+
+// Words of a table, and so pages of a directory: the pages whose level-1 word is the same.
+pub(crate) const TABLE_WORDS: u32 = 1024;
 
 // Only `new` makes one: no list that is refused is asked for its mappings.
 #[derive(Clone, Copy)]
@@ -48,12 +51,29 @@ impl<'a> List<'a> {
         true
     }
 
-    // The leaf of a page, looked for from mapping `from` on, or 0.
-    pub(crate) fn leaf_at(self, from: usize, page: u32) -> u32
+    // Where the pages of a directory end, looked for from mapping `from` on: behind it stand higher ones alone.
+    pub(crate) fn end_of(self, from: usize, directory: u32) -> usize
         requires { from ≤ length self.vpns.now }
+        ensures in_bounds { (from ≤ result) × (result ≤ length self.entry.vpns.now) }
+        ensures next { result < length self.entry.vpns.now → directory < get_or self.entry.vpns.now result 0 / 1024 }
+    {
+        match self.vpns[from..]
+            .iter()
+            .position(|&vpn| vpn / TABLE_WORDS > directory)
+        {
+            Some(k) => from + k,
+            None => self.vpns.len(),
+        }
+    }
+
+    // The leaf of a page, looked for from mapping `from` on, or 0. Of a page's own table all pages stand below `end`, where it ends: so the search is
+    // over them alone, and one for each word of a table with few pages is short.
+    pub(crate) fn leaf_at(self, from: usize, end: usize, page: u32) -> u32
+        requires range { (from ≤ end) × (end ≤ length self.vpns.now) }
+        requires past { end < length self.vpns.now → page < get_or self.vpns.now end 0 }
         ensures { result ≡ leaf_at page (drop from (mappings self.entry.vpns.now self.entry.ppns.now self.entry.bits.now)) }
     {
-        match self.vpns[from..].binary_search(&page) {
+        match self.vpns[from..end].binary_search(&page) {
             Ok(k) => self.at(from + k).leaf(),
             Err(_) => 0,
         }

@@ -5,15 +5,12 @@ ghost use Rattle.tables.specs.Mapping.{mappings};
 ghost use Rattle.tables.specs.Words.{put_words};
 ghost use Rattle.tables.specs.Tables.{directories, table_for, level1, level2, tables_after, good_run, frames_for, answer_for, memory_after};
 
-use crate::list::List;
+use crate::list::{List, TABLE_WORDS};
 use crate::refusal::Refusal;
 use memory::good_map;
 use memory::span::put_word;
 
 const PAGE_SIZE: u32 = 4096;
-
-// Words of a table, and so pages of a directory: the pages whose level-1 word is the same.
-const TABLE_WORDS: u32 = 1024;
 
 // No page below 2^20 has this directory: the definitions count from it, so that the first page starts a table.
 const NO_DIRECTORY: u32 = 1024;
@@ -88,8 +85,9 @@ fn write_table(mem: &mut [u8], base: u32, frame: u32, directory: u32, list: List
     requires { (from ≤ length list.vpns.now) × (frame + 4096 < 2 ^ 32) × (directory < 2 ^ 22) }
     ensures { mem.new ≡ (put_words (lent base mem.old) frame (level2 directory (drop from (mappings list.entry.vpns.now list.entry.ppns.now list.entry.bits.now)))).bytes }
 {
+    let end = list.end_of(from, directory);
     for i in 0..TABLE_WORDS {
-        let word = list.leaf_at(from, directory * TABLE_WORDS + i);
+        let word = list.leaf_at(from, end, directory * TABLE_WORDS + i);
         put_word(mem, base, frame + i * 4, word);
     }
 }

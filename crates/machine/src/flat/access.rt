@@ -3,6 +3,7 @@ ghost use Rattle.std.specs.Prelude.{◌≡◌, true, length};
 ghost use Rattle.memory.specs.Gate.{map_good};
 ghost use Rattle.memory.specs.Memory.{lent};
 ghost use Rattle.mmu.specs.declared.exception.Access.TheVariants.{Read, Write, Fetch};
+ghost use Rattle.privilege.specs.Flat.Access.{grant_at};
 ghost use Rattle.machine.specs.Access.{is_read};
 ghost use Rattle.machine.specs.Event.{access_kind, stored_by};
 ghost use Rattle.machine.specs.Flat.{no_answer, answer_of, Asks, Permits, ReadsPermitted, WritesPermitted, Accesses, AccessesAny, Grants, ReadsGranted, WritesGranted};
@@ -15,7 +16,7 @@ use memory::span::put_word;
 use memory::{good_map, read_word};
 use mmu::exception::Access;
 use privilege::flat as system_words;
-use privilege::flat::access::{Grant, Permit};
+use privilege::flat::access::{Grant, Permit, Place};
 use privilege::rows::{read_rows, write_rows};
 use privilege::state::PAGE_SIZE;
 use script::Event;
@@ -95,9 +96,9 @@ fn read_permitted(
     ensures { ReadsPermitted state.old state.new (lent base mem.now) addr size access permit result }
 {
     match permit.place {
-        Ok(place) => {
-            let stall = ask(state, access, place.pa);
-            let data = read_rows(mem, base, addr, size, place.pa, place.pb);
+        Ok(Place { pa, pb }) => {
+            let stall = ask(state, access, pa);
+            let data = read_rows(mem, base, addr, size, pa, pb);
             answer_of(data.map_err(Fault::from), stall, permit.reads)
         }
         Err(error) => answer_of(Err(Fault::from(error)), 0, permit.reads),
@@ -117,9 +118,9 @@ fn write_permitted(
     ensures { WritesPermitted state.old state.new (lent base mem.old) addr size value permit result mem.new }
 {
     match permit.place {
-        Ok(place) => {
-            let stall = ask(state, Access::Write, place.pa);
-            let data = write_rows(mem, base, addr, size, place.pa, place.pb, value);
+        Ok(Place { pa, pb }) => {
+            let stall = ask(state, Access::Write, pa);
+            let data = write_rows(mem, base, addr, size, pa, pb, value);
             answer_of(data.and(Ok(0)).map_err(Fault::from), stall, permit.reads)
         }
         Err(error) => answer_of(Err(Fault::from(error)), 0, permit.reads),
@@ -189,32 +190,36 @@ fn grant_word(
 ) -> Option<Grant>
     ensures { Grants state.old state.new (lent base mem.now) addr size access result }
 {
-    if size == 4 && addr % PAGE_SIZE <= PAGE_SIZE - 4 && good_map(mem, base) {
-        return system_words::access::grant_word(
-            &mut state[SYSTEM..SYSTEM_END],
-            mem,
-            base,
-            addr,
-            access,
-        );
+    if size == 4 && addr % PAGE_SIZE <= PAGE_SIZE - 4 {
+        if good_map(mem, base) {
+            return system_words::access::grant_word(
+                &mut state[SYSTEM..SYSTEM_END],
+                mem,
+                base,
+                addr,
+                access,
+            );
+        }
     }
     None
 }
 
-// A granted word, loaded or fetched: the cache, then memory.
+// A granted word, loaded or fetched: the cache, then memory. A grant or a place is taken apart where it is matched, since the compiler keeps one that is handed
+// on whole as a single number of 64 bits.
 fn read_granted(
     state: &mut [u32; STATE_WORDS],
     mem: &[u8],
     base: u32,
     access: Access,
-    grant: Grant,
+    pa: u32,
+    reads: u32,
 ) -> Answer
     requires { (is_read access ≡ true) × (map_good (lent base mem.now) ≡ true) }
-    ensures { ReadsGranted state.old state.new (lent base mem.now) access grant result }
+    ensures { ReadsGranted state.old state.new (lent base mem.now) access (grant_at pa reads) result }
 {
-    let stall = ask(state, access, grant.pa);
-    let content = read_word(mem, base, grant.pa);
-    answer_of(content.ok_or(Fault::BusError), stall, grant.reads)
+    let stall = ask(state, access, pa);
+    let content = read_word(mem, base, pa);
+    answer_of(content.ok_or(Fault::BusError), stall, reads)
 }
 
 // A granted word, stored: memory is lent to be written.
@@ -223,14 +228,15 @@ fn write_granted(
     mem: &mut [u8],
     base: u32,
     value: u32,
-    grant: Grant,
+    pa: u32,
+    reads: u32,
 ) -> Answer
     requires { map_good (lent base mem.old) ≡ true }
-    ensures { WritesGranted state.old state.new (lent base mem.old) value grant result mem.new }
+    ensures { WritesGranted state.old state.new (lent base mem.old) value (grant_at pa reads) result mem.new }
 {
-    let stall = ask(state, Access::Write, grant.pa);
-    let all = put_word(mem, base, grant.pa, value);
-    answer_of(all.then_some(0).ok_or(Fault::BusError), stall, grant.reads)
+    let stall = ask(state, Access::Write, pa);
+    let all = put_word(mem, base, pa, value);
+    answer_of(all.then_some(0).ok_or(Fault::BusError), stall, reads)
 }
 
 // ---- an event
@@ -270,11 +276,11 @@ pub(crate) fn access_event(
     ensures { (length state.new ≡ length state.old) × Accesses state.old state.new (access_kind e.kind) (lent base mem.old) e.a e.size (stored_by e) result mem.new }
 {
     let access = access_of(e.kind);
-    if let Some(grant) = grant_word(state, mem, base, e.a, e.size, access) {
+    if let Some(Grant { pa, reads }) = grant_word(state, mem, base, e.a, e.size, access) {
         if e.kind == 1 {
-            return write_granted(state, mem, base, e.b, grant);
+            return write_granted(state, mem, base, e.b, pa, reads);
         }
-        return read_granted(state, mem, base, access, grant);
+        return read_granted(state, mem, base, access, pa, reads);
     }
     access_any(state, mem, base, e)
 }

@@ -1,10 +1,10 @@
 -- Regions as words: their search, and eight regions written and read. Assumes nothing.
-use Rattle.std.proofs.Common.{◌≡◌, ℕ, ◌+◌, ◌-◌, ◌<◌, ◌≤◌, Bool, true, false, List, length, get_or, drop, set, sym, refl, ap, ◌∙◌, arith}
+use Rattle.std.proofs.Common.{◌≡◌, ℕ, ◌+◌, ◌-◌, ◌*◌, ◌<◌, ◌≤◌, Bool, true, false, List, length, get_or, drop, set, sym, refl, ap, ◌∙◌, arith}
 use Rattle.common.specs.Lists.{over_to, over_to_none, over_to_next, over_to_done}
 use Rattle.mmu.specs.declared.exception.Access.{Access}
 use Rattle.privilege.specs.Addresses.{addresses}
 use Rattle.privilege.specs.Flat.{regions_at}
-use Rattle.privilege.specs.Flat.Laws.{regions_length}
+use Rattle.privilege.specs.Flat.Laws.{regions_length, region_at_lem}
 use Rattle.privilege.specs.Region.{grants_of, some_grants, all_allowed, with_field, field_written}
 use Rattle.privilege.specs.Region.Laws.{one_grants}
 use Rattle.privilege.specs.State.{no_region}
@@ -24,10 +24,16 @@ module _ (z : Bool) (l : List ℕ) (a : ℕ) (k : Access) (i : ℕ) (p : z ≡ s
     pub not_in : r ≡ false → z ≡ some_grants (drop (i + 1) (regions_at l)) a k
     not_in t = not_here z (regions_at l) a k i p r (omega (arith, regions_length l)) (e ∙ ap (λ (x : Region). grants_of x a k) is) t
 
+-- where a region ends
+pub region_end : (l : List ℕ) (n : ℕ) → n < 8 → get_or l (3 * n + 1) 0 ≡ (get_or (regions_at l) n no_region).end
+region_end l n h = ap (λ (x : Region). x.end) (region_at_lem l n h)
+
 -- one region that grants the whole access
-pub granted_whole : (l : List ℕ) (a n : ℕ) (k : Access) (i : ℕ) (g : Region) (r : Bool) → g ≡ get_or (regions_at l) i no_region → r ≡ grants_of g a k → r ≡ true
-    → a + n ≤ g.end → n ≤ 0xFFFF_0000 → a ≤ 0xFFFF_0000 - n → true ≡ true → all_allowed (regions_at l) k (addresses n a) ≡ true
-granted_whole l a n k i g r is e t end small low h = one_grants (regions_at l) i g k n a is (sym e ∙ t) end (omega arith)
+pub granted_whole : (l : List ℕ) (a n : ℕ) (k : Access) (i : ℕ) (z : ℕ) (g : Region) (r : Bool) → z ≡ (get_or (regions_at l) i no_region).end → g ≡ get_or (regions_at l) i no_region → r ≡ grants_of g a k
+    → r ≡ true → a + n ≤ z → n ≤ 0xFFFF_0000 → a ≤ 0xFFFF_0000 - n → true ≡ true → all_allowed (regions_at l) k (addresses n a) ≡ true
+granted_whole l a n k i z g r at is e t end small low h =
+    let ends : g.end ≡ z = ap (λ (x : Region). x.end) is ∙ sym at in
+    one_grants (regions_at l) i g k n a is (sym e ∙ t) (omega (arith, ends, end)) (omega arith)
 
 -- regions that were put into words
 pub allowed_in : (r : Bool) (rs : List Region) (l : List ℕ) (k : Access) (at : List ℕ) → regions_at l ≡ rs → r ≡ all_allowed (regions_at l) k at → r ≡ all_allowed rs k at

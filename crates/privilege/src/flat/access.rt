@@ -14,7 +14,7 @@ use crate::transfer::join;
 use common::Refusal;
 use memory::gate::admit;
 use mmu::exception::{Access, Exception};
-use mmu::flat::{ENABLED, check_pages, frame_of, grant_page};
+use mmu::flat::{ENABLED, PageGrant, check_pages, frame_of, grant_page};
 
 // Where an allowed access is: its first byte and, where it lies over two pages, the second page's first. Of an access inside its
 // page `pb` is 0: the rows of any access are moved by both numbers.
@@ -190,10 +190,18 @@ pub fn grant_word(
     }
     if sys[USER] % 2 == 1 {
         if sys[VM + ENABLED] % 2 == 1 {
-            let page = grant_page(&mut sys[VM..REG], mem, base, addr, access)?;
+            let Some(PageGrant { ppn, reads }) = grant_page(
+                &mut sys[VM..REG],
+                mem,
+                base,
+                addr,
+                access,
+            ) else {
+                return None;
+            };
             return Some(Grant {
-                pa: join(page.ppn, addr),
-                reads: page.reads,
+                pa: join(ppn, addr),
+                reads,
             });
         }
         return None;

@@ -25,6 +25,14 @@ pub(crate) fn region_at(regions: &[u32], n: usize) -> Region
     }
 }
 
+// Where region `n` ends.
+fn end_at(regions: &[u32], n: usize) -> u32
+    requires { (length regions.now ≡ 24) × (n < 8) }
+    ensures { result ≡ (slice_index_or (regions_at regions.now) n no_region).end }
+{
+    regions[REGION_WORDS * n + 1]
+}
+
 // The words of region `n`.
 fn put_region(regions: &mut [u32], n: usize, region: Region)
     requires { (length regions.old ≡ 24) × (n < 8) }
@@ -94,7 +102,7 @@ fn byte_allowed(regions: &[u32], addr: u32, access: Access) -> bool
     some_grants(regions, addr, access)
 }
 
-// Whether one region grants the whole access, so that its bytes need not be looked at one by one.
+// Whether one region grants the whole access, so that its bytes need not be looked at one by one. Of most regions only the end is read.
 fn one_grants(regions: &[u32], addr: u32, len: u32, access: Access) -> bool
     requires { length regions.now ≡ 24 }
     ensures { result ≡ true → all_allowed (regions_at regions.now) access (addresses len addr) ≡ true }
@@ -106,9 +114,8 @@ fn one_grants(regions: &[u32], addr: u32, len: u32, access: Access) -> bool
         return false;
     }
     for i in 0..REGION_COUNT {
-        let region = region_at(regions, i);
-        if addr + len <= region.end {
-            if region.grants(addr, access) {
+        if addr + len <= end_at(regions, i) {
+            if region_at(regions, i).grants(addr, access) {
                 return true;
             }
         }

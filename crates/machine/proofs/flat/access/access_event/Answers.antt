@@ -1,4 +1,5 @@
 -- `machine::flat::access::access_event` meets its contract: a word that is granted at once is stored or read; the check decides any other access. Assumes nothing.
+use Rattle.std.proofs.Common.{sym, ap, ◌∙◌, Some}
 use Rattle.machine.proofs.Accesses.{kind_reads, word_good, event_read_word, event_written_word, event_other}
 use Rattle.machine.proofs.flat.access.access_event.Goals as goal
 
@@ -17,7 +18,7 @@ returns-then-e-eq1 c =
     let g = one in
     let k = g in
     let e = k.args.e in
-    event_written_word _ _ _ _ e _ _ g.grant_word.ensures _ _ k.access_of-access.ensures _ one.in-Some.is _ test.if-e-eq1.true w.write_granted.ensures
+    event_written_word _ _ _ _ e _ _ g.grant_word.ensures _ _ k.access_of-access.ensures _ (one.in-Some.is ∙ ap Some (sym one.in-Some.field-0-is)) _ test.if-e-eq1.true w.write_granted.ensures
 
 pub read_granted-requires : goal.read_granted-requires
 read_granted-requires c =
@@ -36,7 +37,7 @@ returns-in-Some c =
     let g = one in
     let k = g in
     let e = k.args.e in
-    event_read_word _ _ _ _ e _ _ g.grant_word.ensures _ _ k.access_of-access.ensures _ one.in-Some.is test.if-e-eq1.false w.read_granted.ensures
+    event_read_word _ _ _ _ e _ _ g.grant_word.ensures _ _ k.access_of-access.ensures _ (one.in-Some.is ∙ ap Some (sym one.in-Some.field-0-is)) test.if-e-eq1.false w.read_granted.ensures
 
 pub returns : goal.returns
 returns c =

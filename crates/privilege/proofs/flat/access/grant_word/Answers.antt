@@ -11,7 +11,7 @@ pub returns-then-addr : goal.returns-then-addr
 returns-then-addr c = search (over_all, grant_apart, rules)
 
 pub returns-then-sys-eq1-2 : goal.returns-then-sys-eq1-2
-returns-then-sys-eq1-2 c = search (over_all, grant_translated, c.in_ok-page.was, rules)
+returns-then-sys-eq1-2 c = search (over_all, grant_translated, c.in-Some.is, rules)
 
 pub returns-then-sys-eq1 : goal.returns-then-sys-eq1
 returns-then-sys-eq1 c = search (over_all, grant_off, rules)
@@ -19,5 +19,5 @@ returns-then-sys-eq1 c = search (over_all, grant_off, rules)
 pub returns : goal.returns
 returns c = search (over_all, grant_bare, rules)
 
-pub returns-in_err-page : goal.returns-in_err-page
-returns-in_err-page c = search (over_all, grant_shut, c.in_err-page.was, rules)
+pub returns-in_default : goal.returns-in_default
+returns-in_default c = search (over_all, grant_shut, c.in_default.is, rules)
