@@ -6,19 +6,19 @@
 // the digests of the I and D tags.
 #![tactic(auto)]
 
+mod line;
+
 use cache::{CacheAccess, L1Cache};
 use digest::{FNV_START, fnv_words};
 use input::read_full;
+use line::Line;
 use script::{EVENT_SIZE, Event, event_at};
-use std::fmt::{Display, Formatter};
+use std::fmt::{Display, Formatter, Write as _};
 use std::io::Write;
 use std::{fmt, io};
 
 // What is read of the input; the rest is left.
 const INPUT_MAX: usize = 65536;
-
-// More bytes than a line has.
-const LINE_MAX: usize = 128;
 
 #[derive(Clone, Copy)]
 struct Answer {
@@ -92,11 +92,10 @@ fn step(cache: L1Cache, e: Event) -> Answer {
 
 // A line goes out by one call.
 fn show<W: Write>(to: &mut W, answer: &Answer) -> io::Result<()> {
-    let mut line = [0u8; LINE_MAX];
-    let mut room = line.as_mut_slice();
-    writeln!(room, "{answer}")?;
-    let filled = LINE_MAX.saturating_sub(room.len());
-    to.write_all(&line[..filled])
+    let mut line = Line::new();
+    // It always succeeds: what has no room is left out.
+    let _ = write!(line, "{answer}\n");
+    to.write_all(line.text())
 }
 
 fn main(rt: HostRuntime) -> io::Result<()> {

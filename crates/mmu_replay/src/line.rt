@@ -1,4 +1,5 @@
-// A line before it is written: text in a buffer of its own. As a writer of text it costs less than a slice, which is one of bytes.
+// A line before it is written: text in a buffer of its own. As a writer of text it costs less than a slice, which is one of bytes. `cache_replay` has the
+// same: a library for the two, with promises of its own, would be longer.
 use std::fmt;
 
 // More bytes than a line has.
